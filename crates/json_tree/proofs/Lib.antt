@@ -1,0 +1,6 @@
+pub mod Equality
+pub mod Escapes
+pub mod MembersMade
+pub mod MembersOrder
+pub mod NameSearch
+pub mod Views

@@ -1,0 +1,30 @@
+//! JSON values (RFC 8259) as trees, and their canonical text.
+//!
+//! | Module | What it holds |
+//! |---|---|
+//! | `numbers` | `Number`: a whole number |
+//! | `types` | `Tree`, the items of an array, the members of an object |
+//! | `name_order` | members in the order of their names |
+//! | `printing` | `print`, `print_text`: the canonical text |
+//! | `lengths` | `text_len`: how long that text is |
+//! | `depths` | `depth`: how deep a tree nests |
+//! | `copies` | `copy`: a tree of the same value |
+//! | `sameness` | `same`: whether two trees have the same value |
+#![tactic(auto)]
+
+mod copies;
+mod depths;
+mod lengths;
+mod name_order;
+mod numbers;
+mod printing;
+mod sameness;
+mod types;
+
+pub use copies::copy;
+pub use depths::depth;
+pub use lengths::text_len;
+pub use numbers::Number;
+pub use printing::{print, print_text};
+pub use sameness::same;
+pub use types::{Items, Members, MembersFault, Tree};

@@ -1,0 +1,21 @@
+//! What the program reads from and writes to: byte sources and sinks that count their faults.
+//!
+//! | Module | What it holds |
+//! |---|---|
+//! | `source` | `Source`: something that bytes are read from, with `SourceError` |
+//! | `sink` | `Sink`: something that bytes are written to, with `SinkError`, and `write_all` |
+//! | `streams` | `StdSource`, `StdSink`: a reader or a writer of std |
+//! | `memory` | `MemSource`, `MemSink`: bytes in memory, with calls that fail by plan |
+//! | `fault_plan` | which calls of those fail |
+#![tactic(auto)]
+
+mod fault_plan;
+mod memory;
+mod sink;
+mod source;
+mod streams;
+
+pub use memory::{MemSink, MemSource};
+pub use sink::{Sink, SinkError, write_all};
+pub use source::{Source, SourceError};
+pub use streams::{StdSink, StdSource};
