@@ -39,9 +39,10 @@ impl MemSource {
     pub fn new(bytes: Vec<u8>, piece: usize, failing: Vec<u64>) -> MemSource
         requires { 0 < piece }
         ensures { result ≡ record {
-            left = bytes.items;
-            piece = piece;
-            plan = record { failing = failing.items; calls = 0; faults = 0 } } }
+          left = bytes.items;
+          piece = piece;
+          plan = record { failing = failing.items; calls = 0; faults = 0 };
+        } }
     {
         MemSource {
             bytes,
@@ -107,9 +108,10 @@ impl MemSink {
     /// from 0, fail.
     pub fn new(alloc: Global, failing: Vec<u64>) -> MemSink
         ensures { result ≡ record {
-            written = [];
-            piece = 2 ^ 64 - 1;
-            plan = record { failing = failing.items; calls = 0; faults = 0 } } }
+          written = [];
+          piece = 2 ^ 64 - 1;
+          plan = record { failing = failing.items; calls = 0; faults = 0 };
+        } }
     {
         MemSink::in_pieces(alloc, usize::MAX, failing)
     }
@@ -118,9 +120,10 @@ impl MemSink {
     pub fn in_pieces(alloc: Global, piece: usize, failing: Vec<u64>) -> MemSink
         requires { 0 < piece }
         ensures { result ≡ record {
-            written = [];
-            piece = piece;
-            plan = record { failing = failing.items; calls = 0; faults = 0 } } }
+          written = [];
+          piece = piece;
+          plan = record { failing = failing.items; calls = 0; faults = 0 };
+        } }
     {
         MemSink {
             bytes: Vec::new(alloc),

@@ -1,0 +1,59 @@
+#!/usr/bin/env python3
+"""Writes JSON lines of one shape until they have so many bytes.
+
+usage: generate.py SHAPE BYTES > FILE
+
+SHAPE  numbers   objects of a few whole numbers, the path $.a in most of them
+       records   small records: a number, a time, a nested user, a list of texts
+       long      one line, an array of such objects
+       wide      one object with so many bytes of members
+"""
+import random
+import sys
+
+
+def numbers(draw):
+    names = ["a", "bc", "count", "d", "size"]
+    chosen = [n for n in names if draw.random() < 0.8] or ["z"]
+    return "{" + ",".join(f'"{n}":{draw.randrange(-9999, 999999)}' for n in chosen) + "}"
+
+
+def records(draw, i=[0]):
+    i[0] += 1
+    n = i[0]
+    return (f'{{"id":{1000 + n},"ts":"2024-05-01T10:{n % 60:02}:00Z",'
+            f'"user":{{"name":"u{n % 3}","age":{20 + n % 50}}},'
+            f'"amount":{draw.randrange(0, 99999)},"tags":["a","b"]}}')
+
+
+def main():
+    shape, size = sys.argv[1], int(sys.argv[2])
+    draw = random.Random(7)
+    out = sys.stdout
+    done = 0
+    if shape == "long":
+        out.write('{"a":[')
+        done = 8
+        first = True
+        while done < size - 100:
+            text = ("" if first else ",") + numbers(draw)
+            first = False
+            out.write(text)
+            done += len(text)
+        out.write("]}\n")
+        return
+    if shape == "wide":
+        out.write("{")
+        names = list(range(size // 14))
+        draw.shuffle(names)
+        out.write(",".join(f'"n{n:06}":{n % 10}' for n in names))
+        out.write("}\n")
+        return
+    make = {"numbers": numbers, "records": records}[shape]
+    while done < size:
+        text = make(draw) + "\n"
+        out.write(text)
+        done += len(text)
+
+
+main()

@@ -1,0 +1,63 @@
+#!/usr/bin/env bash
+# Times `vstore scan` on generated JSON lines, beside jq where it is installed, and counts instructions
+# per byte where valgrind is. Prints a table in Markdown.
+#
+# usage: bench/run.sh PROGRAM [MEGABYTES..]
+set -eu
+here=$(cd "$(dirname "$0")" && pwd)
+program=$(realpath "$1")
+shift
+sizes=${*:-10 100}
+work=$(mktemp -d)
+trap 'rm -rf "$work"' EXIT
+
+# the least wall time in seconds of three runs, and the peak memory in MB
+timed() {
+    local least="" memory="" run
+    for run in 1 2 3; do
+        /usr/bin/time -f '%e %M' -o "$work/time" "$@" > "$work/out" < "$work/in"
+        read -r wall peak < "$work/time"
+        if [ -z "$least" ] || [ "$(echo "$wall < $least" | bc -l 2>/dev/null || python3 -c "print(int($wall < $least))")" = 1 ]; then least=$wall; fi
+        memory=$peak
+    done
+    echo "$least $memory"
+}
+
+echo "| input | path | MB | vstore s | MB/s | peak MB | jq s | ratio |"
+echo "|---|---|---|---|---|---|---|---|"
+for shape in numbers records; do
+    path='$.a'; filter='.a'
+    [ "$shape" = records ] && path='$.user.name' && filter='.user.name'
+    for size in $sizes; do
+        python3 "$here/generate.py" "$shape" $((size * 1000000)) > "$work/in"
+        read -r ours memory < <(timed "$program" scan "$path")
+        if command -v jq > /dev/null; then
+            read -r theirs _ < <(timed jq -c "$filter")
+        else
+            theirs=0
+        fi
+        python3 - "$shape" "$path" "$size" "$ours" "$memory" "$theirs" <<'P'
+import sys
+shape, path, size, ours, memory, theirs = sys.argv[1:]
+ours, theirs = float(ours), float(theirs)
+ratio = f"{ours / theirs:.2f}" if theirs else "-"
+print(f"| {shape} | `{path}` | {size} | {ours:.2f} | {float(size) / max(ours, 0.01):.0f} | {int(memory) / 1000:.1f} | {theirs:.2f} | {ratio} |")
+P
+    done
+done
+
+if command -v valgrind > /dev/null; then
+    echo
+    echo "| input | bytes | instructions per byte |"
+    echo "|---|---|---|"
+    count() { valgrind --tool=callgrind --callgrind-out-file=/dev/null "$program" scan "$1" < "$work/in" 2>&1 > /dev/null | awk '/Collected/ {print $4}'; }
+    : > "$work/in"
+    start=$(count '$.a')
+    for shape in numbers records long wide; do
+        path='$.a'
+        [ "$shape" = records ] && path='$.user.name'
+        python3 "$here/generate.py" "$shape" 1000000 > "$work/in"
+        bytes=$(stat -c %s "$work/in")
+        echo "| $shape | $bytes | $(( ($(count "$path") - start) / bytes )) |"
+    done
+fi

@@ -1,0 +1,5 @@
+use Rattle.exact_json.proofs.Walks.{one_value}
+use Rattle.exact_json.proofs.laws.value_is_one.Goals as goal
+
+pub returns : goal.returns
+returns c = one_value

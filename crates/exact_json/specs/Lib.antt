@@ -1,0 +1,5 @@
+pub mod Documents
+pub mod Faults
+pub mod Meaning
+pub mod Numbers
+pub mod Parsing

@@ -1,0 +1,4 @@
+pub mod Ranges
+pub mod Cutting
+pub mod Fronts
+pub mod Steps

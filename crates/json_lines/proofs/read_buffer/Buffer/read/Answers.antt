@@ -1,0 +1,53 @@
+use Rattle.std.proofs.Common.{◌∙◌, ◌+◌, ℕ, List, ◌++◌, take, ap, arith}
+use Rattle.std.proofs.lemmas.List.{with_items_is}
+use Rattle.memchr.specs.Find.{is_byte}
+use Rattle.json_lines.specs.Buffer.{Buffered}
+use Rattle.json_lines.proofs.Ranges.{range_same, range_grown, plain_same}
+use Rattle.json_lines.proofs.read_buffer.Buffer.read.Goals as goal
+
+pub invariant_of-self : goal.invariant_of-self
+invariant_of-self g c =
+    let b = c.self.inside in
+    let is = with_items_is b.bytes c.read_at.new.bytes (omega arith) in
+    let front = ap (take b.end) is ∙ c.in-Ok.ensures.before ∙ ap (take b.end) c.deref_mut.ensures.value in
+    record {
+      start = c.self.invariant.start;
+      searched = omega arith;
+      end = omega (arith, c.in-Ok.ensures.count, ap (λ (s : Buffered). s.free) c.self.view_is);
+      piece = c.self.invariant.piece;
+      plain = plain_same (is_byte 10) b.bytes.items _ b.start b.searched b.end c.self.invariant.searched front c.self.invariant.plain;
+    }
+
+pub invariant_of-self-in-Err : goal.invariant_of-self-in-Err
+invariant_of-self-in-Err g c =
+    let b = c.self.inside in
+    let is = with_items_is b.bytes c.read_at.new.bytes (omega arith) in
+    let front = ap (take b.end) is ∙ c.in-Err.ensures.before ∙ ap (take b.end) c.deref_mut.ensures.value in
+    record {
+      start = c.self.invariant.start;
+      searched = c.self.invariant.searched;
+      end = c.self.invariant.end;
+      piece = c.self.invariant.piece;
+      plain = plain_same (is_byte 10) b.bytes.items _ b.start b.searched b.end c.self.invariant.searched front c.self.invariant.plain;
+    }
+
+pub returns-in-Err-clause-held : goal.returns-in-Err-clause-held
+returns-in-Err-clause-held g c =
+    let b = c.self.inside in
+    let is = with_items_is b.bytes c.read_at.new.bytes (omega arith) in
+    let front = ap (take b.end) is ∙ c.in-Err.ensures.before ∙ ap (take b.end) c.deref_mut.ensures.value in
+    range_same b.bytes.items _ b.start b.end (omega arith) front ∙ ap (λ (s : Buffered). s.held) c.self.view_is
+
+pub returns-in-Ok-clause-gains : goal.returns-in-Ok-clause-gains
+returns-in-Ok-clause-gains g c =
+    let b = c.self.inside in
+    let is = with_items_is b.bytes c.read_at.new.bytes (omega arith) in
+    let gains = c.in-Ok.ensures.gains in
+    let grown = ap (take (b.end + c.in-Ok.count)) is ∙ gains.grown ∙ ap (λ (s : List ℕ). take b.end s ++ gains.bytes) c.deref_mut.ensures.value in
+    record {
+      bytes = gains.bytes;
+      grown = range_grown b.bytes.items _ gains.bytes b.start b.end c.in-Ok.count (omega arith) (omega arith) grown ∙ ap (λ (s : Buffered). s.held ++ gains.bytes) c.self.view_is;
+      size = gains.size;
+      taken = gains.taken;
+      end = gains.end;
+    }

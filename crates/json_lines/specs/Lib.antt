@@ -1,0 +1,6 @@
+pub mod Cut
+pub mod Next
+pub mod Answers
+pub mod Buffer
+pub mod Gains
+pub mod Front

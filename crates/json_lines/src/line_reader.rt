@@ -1,0 +1,327 @@
+//! The lines of an input, given in turn.
+//!
+//! An input is cut at each LF; its last line may lack one. Lines are counted from 1. Those of
+//! nothing but white space are counted and passed over. Of an input only a given number of bytes
+//! count, and of a line only 1,048,576, so what is held stays small whatever the input is.
+
+ghost use Rattle.std.specs.Prelude.{◌≡◌, ◌+◌, ◌-◌, ◌<◌, ◌≤◌, [], length, drop, IfNone, IfSome, OnSome, IfOk, OnErr, IsErrOf, IsTrue};
+ghost use Rattle.std.specs.List.{list_all};
+ghost use Rattle.std.specs.Io.KnownBytes.{Keeps};
+ghost use Rattle.json_lines.specs.Cut.{is_blank_byte, lines_of, max_line};
+ghost use Rattle.json_lines.specs.Next.{nothing, Repeats, kept_after, ComesFrom, LeavesLess, is_decided};
+ghost use Rattle.json_lines.specs.Answers.{kept_of};
+ghost use Rattle.json_lines.specs.Gains.{Gains};
+ghost use Rattle.json_lines.specs.Front.{Shows, PassesBlank, IsOpen, GivesLine, ComesLast};
+ghost use Rattle.outside.specs.Devices.{HasCauseAt};
+
+use crate::read_buffer::Buffer;
+use outside::{Source, SourceError};
+use std::alloc::Global;
+use std::marker::Model;
+use vs_bytes::{Bytes, NoMemory};
+
+/// The greatest number of bytes of a line, without its LF.
+pub const LINE_LIMIT: usize = 1_048_576;
+
+/// What a call of [`Lines::next`] found.
+#[derive(Debug, Drop)]
+pub enum Next {
+    /// A line that isn't blank, without its LF. Lines are counted from 1, blank ones too.
+    Line { number: u64, bytes: Bytes },
+    /// A line of more than 1,048,576 bytes.
+    TooLong { number: u64 },
+    /// The end of the input.
+    End,
+}
+
+/// Why a call of [`Lines::next`] gave nothing.
+#[derive(Clone, Copy, PartialEq, Eq, Debug, Drop)]
+pub enum LineFault {
+    /// The source failed.
+    ReadFault,
+    /// More bytes came than count.
+    InputTooLong,
+    /// There was no memory for the line.
+    NoMemory,
+}
+
+/// Gives the lines of one input.
+///
+/// It holds what was read and not yet given: 128 KiB of memory, and up to 2 MiB where lines are long.
+#[derive(Drop)]
+pub struct Lines {
+    alloc: Global,
+    buffer: Buffer,
+    // How many lines were given or passed over.
+    number: u64,
+    // How many bytes from the held ones on still count.
+    room: u64,
+    kept: KeptAnswer,
+}
+
+// The answer that every later call repeats.
+#[derive(Clone, Copy, Debug, Drop)]
+enum KeptAnswer {
+    Nothing,
+    End,
+    TooLong(u64),
+    InputTooLong,
+    ReadFault,
+}
+
+impl Model for Lines {
+    ghost use Rattle.std.specs.Prelude.{◌+◌, ◌<◌, ◌≤◌, ◌^◌, length};
+    ghost use Rattle.json_lines.specs.Next.{State};
+    ghost use Rattle.json_lines.specs.Answers.{kept_of};
+
+    ghost Value = { State };
+
+    ghost view = { λ l. record { number = l.number; room = l.room; held = l.buffer.held; kept = kept_of l.kept } };
+
+    ghost invariant = { λ l. (l.number + l.room < 2 ^ 64) × (length l.buffer.held ≤ l.room + 1) };
+}
+
+impl Lines {
+    /// An input of which at most `limit` bytes count.
+    pub fn new(alloc: Global, limit: u64) -> Result<Lines, NoMemory>
+        ensures { IfOk result (λ lines. lines ≡ record { number = 0; room = limit; held = []; kept = nothing }) }
+    {
+        Ok(Lines {
+            alloc,
+            buffer: Buffer::new(alloc)?,
+            number: 0,
+            room: limit,
+            kept: KeptAnswer::Nothing,
+        })
+    }
+
+    /// The next line that isn't blank, read from `source`, or the end of the input.
+    ///
+    /// It reads only while the bytes that it holds don't decide the answer, and gives:
+    ///
+    /// | Answer | What it says | What a later call answers |
+    /// |---|---|---|
+    /// | `Line` | the line, without its LF, and its number | what comes behind it |
+    /// | `TooLong` | the line of this number has more than 1,048,576 bytes | the same |
+    /// | `End` | the input ended, and its last line was given or is blank | the same |
+    /// | `ReadFault` | the source failed; every line whose LF was read has been given | the same |
+    /// | `InputTooLong` | the limit of the input falls into this line, and more bytes came | the same |
+    /// | `NoMemory` | nothing was given, and nothing that was read is lost | tries again |
+    ///
+    /// A line that is both too long and cut by the limit is `TooLong`. An answer that is given again
+    /// is given without a read. All calls are to be made with one source.
+    pub fn next<S: Source>(&mut self, source: &mut S) -> Result<Next, LineFault>
+        ensures again { Repeats self.old.kept result }
+        ensures untouched { (self.old.kept ≡ nothing → ⊥) → (source.new ≡ source.old) × (self.new ≡ self.old) }
+        ensures keeps { self.new.kept ≡ kept_after result }
+        ensures comes { self.old.kept ≡ nothing → ComesFrom (S.left source.old) (S.left source.new) self.old self.new result }
+        ensures less { LeavesLess self.old self.new result }
+        ensures decided { self.old.kept ≡ nothing → IsTrue (is_decided (lines_of self.old.room self.old.held)) → source.new ≡ source.old }
+        ensures cause { HasCauseAt (S.faults source.old) (S.faults source.new) ((self.old.kept ≡ nothing) × IsErrOf result LineFault.ReadFault) }
+    {
+        if let Some(answer) = self.repeated() {
+            return answer;
+        }
+        let answer = self.find_next(source);
+        self.kept = kept_answer(&answer);
+        answer
+    }
+
+    // The kept answer, if there is one.
+    fn repeated(&self) -> Option<Result<Next, LineFault>>
+        ensures none { IfNone result (self.now.kept ≡ nothing) }
+        ensures some { OnSome result (self.now.kept ≡ nothing → ⊥) }
+        ensures again { IfSome result (Repeats self.now.kept) }
+        ensures keeps { IfSome result (λ answer. self.now.kept ≡ kept_after answer) }
+    {
+        match self.kept {
+            KeptAnswer::Nothing => None,
+            KeptAnswer::End => Some(Ok(Next::End)),
+            KeptAnswer::TooLong(number) => Some(Ok(Next::TooLong { number })),
+            KeptAnswer::InputTooLong => Some(Err(LineFault::InputTooLong)),
+            KeptAnswer::ReadFault => Some(Err(LineFault::ReadFault)),
+        }
+    }
+
+    // The next answer, where none is kept.
+    fn find_next<S: Source>(&mut self, source: &mut S) -> Result<Next, LineFault>
+        ensures kept { self.new.kept ≡ self.old.kept }
+        ensures comes { ComesFrom (S.left source.old) (S.left source.new) self.old self.new result }
+        ensures less { LeavesLess self.old self.new result }
+        ensures decided { IsTrue (is_decided (lines_of self.old.room self.old.held)) → source.new ≡ source.old }
+        ensures cause { HasCauseAt (S.faults source.old) (S.faults source.new) (IsErrOf result LineFault.ReadFault) }
+    {
+        loop {
+            match self.pass_blank() {
+                Front::Line(at) => return self.give(at, at + 1),
+                Front::Long => {
+                    return Ok(Next::TooLong {
+                        number: self.number + 1,
+                    });
+                }
+                Front::Over => return Err(LineFault::InputTooLong),
+                Front::Open => {}
+            }
+            match self.fill(source) {
+                Ok(0) => return self.last(),
+                Ok(_) => {}
+                Err(error) => return Err(error),
+            }
+        }
+    }
+
+    // Passes over the blank lines that are held, up to what comes behind them.
+    fn pass_blank(&mut self) -> Front
+        ensures passes { PassesBlank self.old self.new result }
+    {
+        loop {
+            match self.front() {
+                Front::Line(at) => {
+                    if !is_blank(self.buffer.front(at)) {
+                        return Front::Line(at);
+                    }
+                    self.pass(at + 1);
+                }
+                Front::Long => return Front::Long,
+                Front::Over => return Front::Over,
+                Front::Open => return Front::Open,
+            }
+        }
+    }
+
+    // What the held bytes begin with.
+    fn front(&mut self) -> Front
+        ensures same { self.new ≡ self.old }
+        ensures shows { Shows self.old result }
+    {
+        let room = self.room;
+        let len = self.buffer.len() as u64;
+        if let Some(at) = self.buffer.line_end() {
+            if (at as u64).min(room) > LINE_LIMIT as u64 {
+                return Front::Long;
+            }
+            if (at as u64) < room {
+                return Front::Line(at);
+            }
+            return Front::Over;
+        }
+        if len.min(room) > LINE_LIMIT as u64 {
+            return Front::Long;
+        }
+        if len > room {
+            return Front::Over;
+        }
+        Front::Open
+    }
+
+    // Counts a line, and lets its bytes go: `taken` of them, with its LF.
+    fn pass(&mut self, taken: usize)
+        requires some { 0 < taken }
+        requires held { taken ≤ length self.old.held }
+        requires counts { taken ≤ self.old.room }
+        ensures { self.new ≡ record { number = self.old.number + 1; room = self.old.room - taken; held = drop taken self.old.held; kept = self.old.kept } }
+    {
+        self.buffer.advance(taken);
+        self.room -= taken as u64;
+        self.number += 1;
+    }
+
+    // Gives a line of `size` bytes, of which `taken` go with its LF.
+    fn give(&mut self, size: usize, taken: usize) -> Result<Next, LineFault>
+        requires some { 0 < taken }
+        requires size { size ≤ length self.old.held }
+        requires held { taken ≤ length self.old.held }
+        requires counts { taken ≤ self.old.room }
+        ensures { GivesLine size taken self.old self.new result }
+    {
+        let bytes = Bytes::from_slice(self.alloc, self.buffer.front(size))?;
+        self.pass(taken);
+        Ok(Next::Line {
+            number: self.number,
+            bytes,
+        })
+    }
+
+    // Reads more bytes, at most one more than still count.
+    fn fill<S: Source>(&mut self, source: &mut S) -> Result<usize, LineFault>
+        requires within { length self.old.held ≤ self.old.room }
+        requires short { length self.old.held ≤ max_line }
+        ensures number { self.new.number ≡ self.old.number }
+        ensures room { self.new.room ≡ self.old.room }
+        ensures kept { self.new.kept ≡ self.old.kept }
+        ensures gains { IfOk result (Gains (S.left source.old) (S.left source.new) self.old.held self.new.held) }
+        ensures held { OnErr result (self.new.held ≡ self.old.held) }
+        ensures keeps { OnErr result (Keeps (S.left source.old) (S.left source.new)) }
+        ensures limit { IsErrOf result LineFault.InputTooLong → ⊥ }
+        ensures cause { HasCauseAt (S.faults source.old) (S.faults source.new) (IsErrOf result LineFault.ReadFault) }
+    {
+        let most = (self.room - self.buffer.len() as u64).saturating_add(1);
+        self.buffer.make_room()?;
+        match self.buffer.read(source, most as usize) {
+            Ok(count) => Ok(count),
+            Err(SourceError::Failed) => Err(LineFault::ReadFault),
+        }
+    }
+
+    // The end of the input: the held bytes are its last line, which lacks an LF.
+    fn last(&mut self) -> Result<Next, LineFault>
+        requires { IsOpen self.old }
+        ensures kept { self.new.kept ≡ self.old.kept }
+        ensures comes { ComesLast self.old self.new result }
+    {
+        let len = self.buffer.len();
+        if is_blank(self.buffer.front(len)) {
+            return Ok(Next::End);
+        }
+        self.give(len, len)
+    }
+}
+
+// What the held bytes begin with.
+#[derive(Clone, Copy, Debug, Drop)]
+enum Front {
+    // A line whose LF stands at this place.
+    Line(usize),
+    // A line of too many bytes.
+    Long,
+    // A line that isn't ended where the limit of the input is reached.
+    Over,
+    // Bytes of a line whose end wasn't read yet.
+    Open,
+}
+
+impl From<NoMemory> for LineFault {
+    ghost use Rattle.json_lines.specs.declared.line_reader.LineFault.TheVariants.{NoMemory as OutOfMemory};
+
+    ghost from_gives = { λ _ e. e ≡ OutOfMemory };
+
+    fn from(_error: NoMemory) -> LineFault {
+        LineFault::NoMemory
+    }
+}
+
+// Whether all bytes are white space. It stops at the first that isn't.
+fn is_blank(line: &[u8]) -> bool
+    ensures { result ≡ list_all is_blank_byte line.now }
+{
+    for byte in line {
+        if *byte != b' ' && *byte != b'\t' && *byte != b'\r' {
+            return false;
+        }
+    }
+    true
+}
+
+// What a call leaves kept.
+fn kept_answer(answer: &Result<Next, LineFault>) -> KeptAnswer
+    ensures { kept_of result ≡ kept_after answer.now }
+{
+    match answer {
+        Ok(Next::Line { .. }) => KeptAnswer::Nothing,
+        Ok(Next::TooLong { number }) => KeptAnswer::TooLong(*number),
+        Ok(Next::End) => KeptAnswer::End,
+        Err(LineFault::InputTooLong) => KeptAnswer::InputTooLong,
+        Err(LineFault::ReadFault) => KeptAnswer::ReadFault,
+        Err(LineFault::NoMemory) => KeptAnswer::Nothing,
+    }
+}

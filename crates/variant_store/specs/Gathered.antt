@@ -1,0 +1,159 @@
+-- Output that is gathered before it is written, and what a walk over the lines keeps true.
+use Rattle.std.specs.Prelude.{◌≡◌, ℕ, ◌<◌, List, [], ◌∷◌, ◌++◌, Option, None, Some, Result, Ok, Err, Bool, true, false}
+use Rattle.std.specs.Io.KnownBytes.{Appends, Keeps, append_known}
+use Rattle.outside.specs.Devices.{AppendsPrefix}
+use Rattle.json_tree.specs.Json.{Json}
+use Rattle.json_lines.specs.Next.{State, nothing, lines_ahead}
+use Rattle.exact_json.specs.Meaning.{Spells}
+use Rattle.exact_json.specs.Documents.{Ending, at_end, at_line, at_limit, Walks, HasDocuments}
+use Rattle.variant_store.specs.Answer.{line_of, answer_of}
+use Rattle.variant_store.specs.Scan.{AnswersAll, AnswersFirst, AnswersPrefix}
+use Rattle.variant_store.specs.declared.scan.Turn.{Turn}
+use Rattle.variant_store.specs.declared.scan.Turn.TheVariants.{More, Ended}
+use Rattle.variant_store.specs.declared.refusal.Refusal.{Refusal}
+use Rattle.variant_store.specs.declared.refusal.Refusal.TheVariants as refusal
+
+-- what was written and, behind it, what is still to be written
+abbrev pub gathered : Option (List ℕ) → List ℕ → Option (List ℕ)
+gathered written pending = append_known written pending
+
+-- known bytes only grew
+abbrev pub Extends : Option (List ℕ) → Option (List ℕ) → Type 0
+Extends old new = (bytes : List ℕ) × Appends old new bytes
+
+-- the gathered bytes were written, or a prefix of them
+abbrev pub Drains : Option (List ℕ) → Option (List ℕ) → List ℕ → List ℕ → Result (Unit {0}) Refusal → Type 0
+Drains old new pending left (Ok _) = Appends old new pending × (left ≡ [])
+Drains old new pending left (Err refusal.WriteFault) = AppendsPrefix old new pending
+Drains old new pending left (Err refusal.NoMemory) = AppendsPrefix old new pending
+Drains old new pending left (Err (refusal.NotPlain n)) = ⊥
+Drains old new pending left (Err refusal.InputTooLong) = ⊥
+Drains old new pending left (Err refusal.ReadFault) = ⊥
+Drains old new pending left (Err refusal.Usage) = ⊥
+Drains old new pending left (Err refusal.BadPath) = ⊥
+
+-- all that was gathered stays gathered or is written, or a prefix of it was written
+abbrev pub DrainsSome : Option (List ℕ) → Option (List ℕ) → List ℕ → List ℕ → Result (Unit {0}) Refusal → Type 0
+DrainsSome old new pending left (Ok _) = Keeps (gathered old pending) (gathered new left) × Extends old new
+DrainsSome old new pending left (Err refusal.WriteFault) = AppendsPrefix old new pending
+DrainsSome old new pending left (Err refusal.NoMemory) = AppendsPrefix old new pending
+DrainsSome old new pending left (Err (refusal.NotPlain n)) = ⊥
+DrainsSome old new pending left (Err refusal.InputTooLong) = ⊥
+DrainsSome old new pending left (Err refusal.ReadFault) = ⊥
+DrainsSome old new pending left (Err refusal.Usage) = ⊥
+DrainsSome old new pending left (Err refusal.BadPath) = ⊥
+
+-- a document's line was gathered, or the line was refused and nothing was gathered
+abbrev pub GathersLine : List (List ℕ) → ℕ → List ℕ → List ℕ → List ℕ → Result (Unit {0}) Refusal → Type 0
+GathersLine names n line old new (Ok _) = (json : Json) × Spells line json × (new ≡ old ++ line_of names json)
+GathersLine names n line old new (Err (refusal.NotPlain m)) = (m ≡ n) × ((json : Json) → Spells line json → ⊥) × (new ≡ old)
+GathersLine names n line old new (Err refusal.NoMemory) = new ≡ old
+GathersLine names n line old new (Err refusal.InputTooLong) = ⊥
+GathersLine names n line old new (Err refusal.ReadFault) = ⊥
+GathersLine names n line old new (Err refusal.WriteFault) = ⊥
+GathersLine names n line old new (Err refusal.Usage) = ⊥
+GathersLine names n line old new (Err refusal.BadPath) = ⊥
+
+-- what a turn gathers, where the source had `rest` and has `behind`: the line of one more document,
+-- or nothing, and then this is how the walk ends
+abbrev pub TurnsAt : List (List ℕ) → List ℕ → List ℕ → State → State → List ℕ → List ℕ → Result Turn Refusal → Type 0
+TurnsAt names rest behind s t old new (Ok More) = (json : Json) × (new ≡ old ++ line_of names json)
+    × ((more : List Json) (ending : Ending) → Walks (lines_ahead t behind) t.number more ending → Walks (lines_ahead s rest) s.number (json ∷ more) ending)
+TurnsAt names rest behind s t old new (Ok Ended) = Walks (lines_ahead s rest) s.number [] at_end × (new ≡ old)
+TurnsAt names rest behind s t old new (Err (refusal.NotPlain n)) = Walks (lines_ahead s rest) s.number [] (at_line n) × (new ≡ old)
+TurnsAt names rest behind s t old new (Err refusal.InputTooLong) = Walks (lines_ahead s rest) s.number [] at_limit × (new ≡ old)
+TurnsAt names rest behind s t old new (Err refusal.ReadFault) = new ≡ old
+TurnsAt names rest behind s t old new (Err refusal.NoMemory) = new ≡ old
+TurnsAt names rest behind s t old new (Err refusal.WriteFault) = ⊥
+TurnsAt names rest behind s t old new (Err refusal.Usage) = ⊥
+TurnsAt names rest behind s t old new (Err refusal.BadPath) = ⊥
+
+-- no turn answers for the output or the words
+abbrev pub IsOfTurn : Result Turn Refusal → Type 0
+IsOfTurn (Ok turn) = Unit {0}
+IsOfTurn (Err (refusal.NotPlain n)) = Unit {0}
+IsOfTurn (Err refusal.InputTooLong) = Unit {0}
+IsOfTurn (Err refusal.ReadFault) = Unit {0}
+IsOfTurn (Err refusal.NoMemory) = Unit {0}
+IsOfTurn (Err refusal.WriteFault) = ⊥
+IsOfTurn (Err refusal.Usage) = ⊥
+IsOfTurn (Err refusal.BadPath) = ⊥
+
+-- the same where the input may be unknown
+abbrev pub Turns : List (List ℕ) → Option (List ℕ) → Option (List ℕ) → State → State → List ℕ → List ℕ → Result Turn Refusal → Type 0
+Turns names None behind s t old new result = Unit {0}
+Turns names (Some rest) None s t old new result = ⊥
+Turns names (Some rest) (Some behind) s t old new result = TurnsAt names rest behind s t old new result
+
+-- a turn that leaves more to do keeps no answer, and leaves less of what still counts
+abbrev pub GoesOn : State → State → Result Turn Refusal → Type 0
+GoesOn s t (Ok More) = (t.kept ≡ nothing) × (t.room < s.room)
+GoesOn s t (Ok Ended) = Unit {0}
+GoesOn s t (Err fault) = Unit {0}
+
+-- the lines of the documents so far were gathered, and whatever documents the lines ahead have, the
+-- input has those after the documents so far
+pub record StandsAt (names : List (List ℕ)) (input rest : List ℕ) (state : State) (old new : Option (List ℕ)) (pending : List ℕ) : Type 0 where
+  pub documents : List Json
+  pub gathers : Appends old (gathered new pending) (answer_of names documents)
+  pub ahead : (more : List Json) (ending : Ending) → Walks (lines_ahead state rest) state.number more ending → HasDocuments input (documents ++ more) ending
+
+-- the same where the input may be unknown
+abbrev pub StandsKnown : List (List ℕ) → Option (List ℕ) → Option (List ℕ) → State → Option (List ℕ) → Option (List ℕ) → List ℕ → Type 0
+StandsKnown names None rest state old new pending = Unit {0}
+StandsKnown names (Some input) None state old new pending = ⊥
+StandsKnown names (Some input) (Some rest) state old new pending = StandsAt names input rest state old new pending
+
+pub record Stands (names : List (List ℕ)) (input rest : Option (List ℕ)) (state : State) (old new : Option (List ℕ)) (pending : List ℕ) : Type 0 where
+  pub kept : state.kept ≡ nothing
+  pub extends : Extends old new
+  pub known : StandsKnown names input rest state old new pending
+
+-- what a walk over the lines has gathered, by how it ends
+abbrev pub Gathers : List (List ℕ) → List ℕ → Option (List ℕ) → Option (List ℕ) → List ℕ → Result (Unit {0}) Refusal → Type 0
+Gathers names input old new pending (Ok _) = AnswersAll names input at_end old (gathered new pending)
+Gathers names input old new pending (Err (refusal.NotPlain n)) = AnswersAll names input (at_line n) old (gathered new pending)
+Gathers names input old new pending (Err refusal.InputTooLong) = AnswersAll names input at_limit old (gathered new pending)
+Gathers names input old new pending (Err refusal.ReadFault) = AnswersFirst names input old (gathered new pending)
+Gathers names input old new pending (Err refusal.WriteFault) = AnswersPrefix names input old new
+Gathers names input old new pending (Err refusal.NoMemory) = AnswersPrefix names input old new
+Gathers names input old new pending (Err refusal.Usage) = ⊥
+Gathers names input old new pending (Err refusal.BadPath) = ⊥
+
+-- the same where the input may be unknown
+abbrev pub GathersKnown : List (List ℕ) → Option (List ℕ) → Option (List ℕ) → Option (List ℕ) → List ℕ → Result (Unit {0}) Refusal → Type 0
+GathersKnown names None old new pending result = Unit {0}
+GathersKnown names (Some input) old new pending result = Gathers names input old new pending result
+
+-- what was known before stays, where no write was refused
+abbrev pub StillExtends : Option (List ℕ) → Option (List ℕ) → Result (Unit {0}) Refusal → Type 0
+StillExtends old new (Ok _) = Extends old new
+StillExtends old new (Err (refusal.NotPlain n)) = Extends old new
+StillExtends old new (Err refusal.InputTooLong) = Extends old new
+StillExtends old new (Err refusal.ReadFault) = Extends old new
+StillExtends old new (Err refusal.WriteFault) = Unit {0}
+StillExtends old new (Err refusal.NoMemory) = Unit {0}
+StillExtends old new (Err refusal.Usage) = Unit {0}
+StillExtends old new (Err refusal.BadPath) = Unit {0}
+
+-- whether the output was cut off, so that nothing more is written
+abbrev pub cuts_off : Result (Unit {0}) Refusal → Bool
+cuts_off (Ok _) = false
+cuts_off (Err (refusal.NotPlain n)) = false
+cuts_off (Err refusal.InputTooLong) = false
+cuts_off (Err refusal.ReadFault) = false
+cuts_off (Err refusal.WriteFault) = true
+cuts_off (Err refusal.NoMemory) = true
+cuts_off (Err refusal.Usage) = true
+cuts_off (Err refusal.BadPath) = true
+
+-- no scan answers for the words
+abbrev pub IsOfScan : Result (Unit {0}) Refusal → Type 0
+IsOfScan (Ok _) = Unit {0}
+IsOfScan (Err (refusal.NotPlain n)) = Unit {0}
+IsOfScan (Err refusal.InputTooLong) = Unit {0}
+IsOfScan (Err refusal.ReadFault) = Unit {0}
+IsOfScan (Err refusal.WriteFault) = Unit {0}
+IsOfScan (Err refusal.NoMemory) = Unit {0}
+IsOfScan (Err refusal.Usage) = ⊥
+IsOfScan (Err refusal.BadPath) = ⊥

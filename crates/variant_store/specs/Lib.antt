@@ -1,0 +1,8 @@
+pub mod Answer
+pub mod Gathered
+pub mod Path
+pub mod PathReading
+pub mod Report
+pub mod Scan
+pub mod Top
+pub mod Words

@@ -1,0 +1,33 @@
+-- The status of a refusal, and the line that the error output gains.
+use Rattle.std.specs.Prelude.{◌≡◌, ◌⊎◌, ℕ, List, [], ◌∷◌, ◌++◌, Option, codes, decimal}
+use Rattle.std.specs.Io.KnownBytes.{Appends}
+use Rattle.outside.specs.Devices.{Rose, AppendsPrefix}
+use Rattle.variant_store.specs.declared.refusal.Refusal.{Refusal}
+use Rattle.variant_store.specs.declared.refusal.Refusal.TheVariants.{Usage, BadPath, NotPlain, InputTooLong, ReadFault, WriteFault, NoMemory}
+
+abbrev pub status_of : Refusal → ℕ
+status_of Usage = 2
+status_of BadPath = 2
+status_of (NotPlain line) = 3
+status_of InputTooLong = 3
+status_of ReadFault = 5
+status_of WriteFault = 6
+status_of NoMemory = 7
+
+-- the line, with its LF
+abbrev pub message_of : Refusal → List ℕ
+message_of Usage = codes "vstore: usage\n"
+message_of BadPath = codes "vstore: bad path\n"
+message_of (NotPlain line) = codes "vstore: line " ++ decimal line ++ codes ": NotPlain\n"
+message_of InputTooLong = codes "vstore: input too long\n"
+message_of ReadFault = codes "vstore: read fault\n"
+message_of WriteFault = codes "vstore: write fault\n"
+message_of NoMemory = codes "vstore: no memory\n"
+
+-- the whole line was written, or a prefix of it where the device failed in this call
+abbrev pub Reports : Refusal → Option (List ℕ) → Option (List ℕ) → ℕ → ℕ → Type 0
+Reports refusal old new before now = Appends old new (message_of refusal) ⊎ (Rose before now × AppendsPrefix old new (message_of refusal))
+
+-- the status is the refusal's and its line was written; or there was no memory to write it
+abbrev pub IsReported : Refusal → ℕ → Option (List ℕ) → Option (List ℕ) → ℕ → ℕ → Type 0
+IsReported refusal status old new before now = ((status ≡ status_of refusal) × Reports refusal old new before now) ⊎ ((status ≡ 7) × AppendsPrefix old new (message_of refusal))

@@ -1,0 +1,80 @@
+//! Why a call ends with another status than 0, and the line that says so.
+
+ghost use Rattle.std.specs.Prelude.{◌≡◌, IfOk, string_bytes};
+ghost use Rattle.variant_store.specs.Report.{status_of, message_of, IsReported};
+
+use outside::{Sink, SinkError, write_all};
+use std::alloc::{AllocError, Global};
+
+/// Why a call ends with another status than 0.
+#[derive(Clone, Copy, PartialEq, Eq, Debug, Drop)]
+pub enum Refusal {
+    /// The words name no command, or aren't as many as it takes.
+    Usage,
+    /// The path isn't in its grammar.
+    BadPath,
+    /// A line that isn't blank spells nothing that is read for now. Lines are counted from 1.
+    NotPlain { line: u64 },
+    /// The input has more than 2^40 bytes.
+    InputTooLong,
+    /// A read failed.
+    ReadFault,
+    /// A write to the output failed.
+    WriteFault,
+    /// An allocation was refused.
+    NoMemory,
+}
+
+/// The line of a line that isn't plain.
+fn not_plain_message(alloc: Global, line: u64) -> Result<String, AllocError>
+    ensures { IfOk result (λ message. string_bytes message ≡ message_of (Refusal.NotPlain line)) }
+{
+    format!(in alloc; "vstore: line {line}: NotPlain\n")
+}
+
+impl Refusal {
+    /// The status that the program ends with.
+    pub fn status(self) -> u8
+        ensures { result ≡ status_of self }
+    {
+        match self {
+            Refusal::Usage | Refusal::BadPath => 2,
+            Refusal::NotPlain { .. } | Refusal::InputTooLong => 3,
+            Refusal::ReadFault => 5,
+            Refusal::WriteFault => 6,
+            Refusal::NoMemory => 7,
+        }
+    }
+
+    /// The line that the error output gains, with its LF.
+    fn message(self, alloc: Global) -> Result<String, AllocError>
+        ensures { IfOk result (λ message. string_bytes message ≡ message_of self) }
+    {
+        match self {
+            Refusal::Usage => String::from_str(alloc, "vstore: usage\n"),
+            Refusal::BadPath => String::from_str(alloc, "vstore: bad path\n"),
+            Refusal::NotPlain { line } => not_plain_message(alloc, line),
+            Refusal::InputTooLong => String::from_str(alloc, "vstore: input too long\n"),
+            Refusal::ReadFault => String::from_str(alloc, "vstore: read fault\n"),
+            Refusal::WriteFault => String::from_str(alloc, "vstore: write fault\n"),
+            Refusal::NoMemory => String::from_str(alloc, "vstore: no memory\n"),
+        }
+    }
+
+    /// Writes the line, and answers the status.
+    ///
+    /// A fault of the error output changes no status; where there is no memory for the line, the
+    /// status is 7.
+    pub fn report<E: Sink>(self, alloc: Global, err: &mut E) -> u8
+        ensures { IsReported self result (E.written err.old) (E.written err.new) (E.faults err.old) (E.faults err.new) }
+    {
+        let Ok(message) = self.message(alloc) else {
+            return Refusal::NoMemory.status();
+        };
+        match write_all(err, message.as_bytes()) {
+            Ok(()) => self.status(),
+            Err(SinkError::Failed) => self.status(),
+            Err(SinkError::NoMemory) => Refusal::NoMemory.status(),
+        }
+    }
+}

@@ -1,0 +1,182 @@
+//! `scan`: a query's lines over the documents of an input.
+//!
+//! Lines are read, answered and gathered one by one. The output is written in pieces, and before each
+//! answer that promises it.
+
+ghost use Rattle.std.specs.Prelude.{◌≡◌, [], IsErrOf};
+ghost use Rattle.outside.specs.Devices.{HasCauseAt};
+ghost use Rattle.json_lines.specs.Next.{nothing};
+ghost use Rattle.exact_json.specs.Documents.{max_input};
+ghost use Rattle.variant_store.specs.Scan.{Scans};
+ghost use Rattle.variant_store.specs.Gathered.{Drains, DrainsSome, GathersLine, Turns, GoesOn, GathersKnown, StillExtends, IsOfTurn, IsOfScan, cuts_off};
+
+use crate::answering::print_line;
+use crate::path::Path;
+use crate::refusal::Refusal;
+use exact_json::{DocFault, LineFault, Lines, Next, read_line};
+use outside::{Sink, SinkError, Source, write_all};
+use std::alloc::Global;
+use vs_bytes::NoMemory;
+
+/// The greatest number of bytes of an input.
+const INPUT_LIMIT: u64 = 1 << 40;
+
+/// How many bytes are gathered before they are written.
+const PIECE: usize = 65_536;
+
+/// What a turn of the walk over the lines leaves to do.
+#[derive(Clone, Copy, Debug, Drop)]
+pub enum Turn {
+    /// More lines.
+    More,
+    /// Nothing: the input has ended.
+    Ended,
+}
+
+/// Writes what was gathered. After an `Err` a prefix of it was written.
+fn drain<O: Sink>(pending: &mut Vec<u8>, out: &mut O) -> Result<(), Refusal>
+    ensures drains { Drains (O.written out.old) (O.written out.new) pending.old.items pending.new.items result }
+    ensures cause { HasCauseAt (O.faults out.old) (O.faults out.new) (IsErrOf result Refusal.WriteFault) }
+{
+    match write_all(out, pending.as_slice()) {
+        Ok(()) => {
+            pending.clear();
+            Ok(())
+        }
+        Err(SinkError::Failed) => Err(Refusal::WriteFault),
+        Err(SinkError::NoMemory) => Err(Refusal::NoMemory),
+    }
+}
+
+/// Writes what was gathered once it is a piece.
+fn drain_piece<O: Sink>(pending: &mut Vec<u8>, out: &mut O) -> Result<(), Refusal>
+    ensures drains { DrainsSome (O.written out.old) (O.written out.new) pending.old.items pending.new.items result }
+    ensures cause { HasCauseAt (O.faults out.old) (O.faults out.new) (IsErrOf result Refusal.WriteFault) }
+{
+    if pending.len() < PIECE {
+        return Ok(());
+    }
+    drain(pending, out)
+}
+
+/// Gathers the printed line of a document. After an `Err` nothing was gathered.
+fn gather(
+    alloc: Global,
+    path: &Path,
+    number: u64,
+    line: &[u8],
+    pending: &mut Vec<u8>,
+) -> Result<(), Refusal>
+    ensures { GathersLine path.now.steps.items number line.now pending.old.items pending.new.items result }
+{
+    match read_line(alloc, line) {
+        Ok(tree) => match print_line(pending, path, &tree) {
+            Ok(()) => Ok(()),
+            Err(NoMemory) => Err(Refusal::NoMemory),
+        },
+        Err(DocFault::NotPlain) => Err(Refusal::NotPlain { line: number }),
+        Err(DocFault::NoMemory) => Err(Refusal::NoMemory),
+    }
+}
+
+/// Takes the next line that isn't blank, and gathers what it prints.
+fn take_turn<I: Source>(
+    alloc: Global,
+    path: &Path,
+    lines: &mut Lines,
+    input: &mut I,
+    pending: &mut Vec<u8>,
+) -> Result<Turn, Refusal>
+    requires { lines.old.kept ≡ nothing }
+    ensures turns { Turns path.now.steps.items (I.left input.old) (I.left input.new) lines.old lines.new pending.old.items pending.new.items result }
+    ensures goes_on { GoesOn lines.old lines.new result }
+    ensures answers { IsOfTurn result }
+    ensures cause { HasCauseAt (I.faults input.old) (I.faults input.new) (IsErrOf result Refusal.ReadFault) }
+{
+    match lines.next(input) {
+        Ok(Next::Line { number, bytes }) => {
+            match gather(alloc, path, number, bytes.as_slice(), pending) {
+                Ok(()) => Ok(Turn::More),
+                Err(refusal) => Err(refusal),
+            }
+        }
+        Ok(Next::TooLong { number }) => Err(Refusal::NotPlain { line: number }),
+        Ok(Next::End) => Ok(Turn::Ended),
+        Err(LineFault::InputTooLong) => Err(Refusal::InputTooLong),
+        Err(LineFault::ReadFault) => Err(Refusal::ReadFault),
+        Err(LineFault::NoMemory) => Err(Refusal::NoMemory),
+    }
+}
+
+/// Goes over all lines and gathers what they print, writing it in pieces.
+///
+/// What is still gathered at the end isn't written.
+fn walk<I: Source, O: Sink>(
+    alloc: Global,
+    path: &Path,
+    lines: &mut Lines,
+    input: &mut I,
+    pending: &mut Vec<u8>,
+    out: &mut O,
+) -> Result<(), Refusal>
+    requires start { lines.old ≡ record { number = 0; room = max_input; held = []; kept = nothing } }
+    requires none { pending.old.items ≡ [] }
+    ensures gathers { GathersKnown path.now.steps.items (I.left input.old) (O.written out.old) (O.written out.new) pending.new.items result }
+    ensures extends { StillExtends (O.written out.old) (O.written out.new) result }
+    ensures answers { IsOfScan result }
+    ensures read_cause { HasCauseAt (I.faults input.old) (I.faults input.new) (IsErrOf result Refusal.ReadFault) }
+    ensures write_cause { HasCauseAt (O.faults out.old) (O.faults out.new) (IsErrOf result Refusal.WriteFault) }
+{
+    'turns: loop {
+        match drain_piece(pending, out) {
+            Ok(()) => {}
+            Err(refusal) => return Err(refusal),
+        }
+        match take_turn(alloc, path, lines, input, pending) {
+            Ok(Turn::More) => {}
+            Ok(Turn::Ended) => return Ok(()),
+            Err(refusal) => return Err(refusal),
+        }
+    }
+}
+
+/// Whether the output was cut off, so that nothing more is written.
+fn cuts_off(done: Result<(), Refusal>) -> bool
+    ensures { result ≡ cuts_off done }
+{
+    match done {
+        Ok(()) => false,
+        Err(Refusal::NotPlain { .. } | Refusal::InputTooLong | Refusal::ReadFault) => false,
+        Err(Refusal::WriteFault | Refusal::NoMemory | Refusal::Usage | Refusal::BadPath) => true,
+    }
+}
+
+/// Prints the lines of a query over the documents of an input.
+///
+/// The lines of all documents before the one that ends the walk are written, unless a write is refused
+/// or there is no memory.
+pub fn scan<I: Source, O: Sink>(
+    alloc: Global,
+    path: &Path,
+    input: &mut I,
+    out: &mut O,
+) -> Result<(), Refusal>
+    ensures writes { Scans path.now.steps.items (I.left input.old) (O.written out.old) (O.written out.new) result }
+    ensures answers { IsOfScan result }
+    ensures read_cause { HasCauseAt (I.faults input.old) (I.faults input.new) (IsErrOf result Refusal.ReadFault) }
+    ensures write_cause { HasCauseAt (O.faults out.old) (O.faults out.new) (IsErrOf result Refusal.WriteFault) }
+{
+    let mut lines = match Lines::new(alloc, INPUT_LIMIT) {
+        Ok(lines) => lines,
+        Err(_) => return Err(Refusal::NoMemory),
+    };
+    let mut pending = Vec::new(alloc);
+    let done = walk(alloc, path, &mut lines, input, &mut pending, out);
+    if cuts_off(done) {
+        return done;
+    }
+    match drain(&mut pending, out) {
+        Ok(()) => done,
+        Err(refusal) => Err(refusal),
+    }
+}

@@ -1,0 +1,66 @@
+//! The top call: words in, a status out.
+
+ghost use Rattle.std.specs.Prelude.{◌≡◌, IsErrOf};
+ghost use Rattle.outside.specs.Devices.{HasCauseAt};
+ghost use Rattle.variant_store.specs.Top.{Runs, RunsScan, IsAnswer, Completes};
+
+use crate::refusal::Refusal;
+use crate::scan::scan;
+use crate::words::asked_path;
+use outside::{Sink, Source};
+use std::alloc::Global;
+use vs_bytes::Text;
+
+/// A word of a call; the program's own name is none.
+pub type Word = Text;
+
+fn run<I: Source, O: Sink>(
+    alloc: Global,
+    words: &[Word],
+    input: &mut I,
+    out: &mut O,
+) -> Result<(), Refusal>
+    ensures runs { Runs words.now (I.left input.old) (O.written out.old) (O.written out.new) ((input.new ≡ input.old) × (out.new ≡ out.old)) result }
+    ensures read_cause { HasCauseAt (I.faults input.old) (I.faults input.new) (IsErrOf result Refusal.ReadFault) }
+    ensures write_cause { HasCauseAt (O.faults out.old) (O.faults out.new) (IsErrOf result Refusal.WriteFault) }
+{
+    match asked_path(alloc, words) {
+        Ok(path) => scan(alloc, &path, input, out),
+        Err(refusal) => Err(refusal),
+    }
+}
+
+/// Does what the words ask for, and answers the status that the program ends with.
+///
+/// | Words | What it does |
+/// |---|---|
+/// | `scan PATH` | prints the match of the path in each document of the input |
+///
+/// | Status | Line on `err` | Where |
+/// |---|---|---|
+/// | 0 | none | the job was done, and the input was read to its end |
+/// | 2 | `vstore: usage` | the words have no such command |
+/// | 2 | `vstore: bad path` | the path isn't in its grammar |
+/// | 3 | `vstore: line N: NotPlain` | line N is the first that isn't admitted; all lines before it are answered |
+/// | 3 | `vstore: input too long` | more than 2^40 bytes came |
+/// | 5 | `vstore: read fault` | a read failed; the lines before are answered |
+/// | 6 | `vstore: write fault` | a write to `out` failed |
+/// | 7 | `vstore: no memory` | an allocation was refused |
+///
+/// A fault of `err` changes no status; where there is no memory for its line the status is 7.
+pub fn vstore<I: Source, O: Sink, E: Sink>(
+    alloc: Global,
+    words: &[Word],
+    input: &mut I,
+    out: &mut O,
+    err: &mut E,
+) -> u8
+    ensures answer { IsAnswer words.now (I.left input.old) (O.written out.old) (O.written out.new) ((input.new ≡ input.old) × (out.new ≡ out.old)) (I.faults input.old) (I.faults input.new) (O.faults out.old) (O.faults out.new) (E.written err.old) (E.written err.new) (E.faults err.old) (E.faults err.new) result }
+    ensures complete { Completes words.now (I.left input.old) (I.faults input.old) (I.faults input.new) (O.faults out.old) (O.faults out.new) result }
+    ensures zero { result ≡ 0 → RunsScan words.now (I.left input.old) (O.written out.old) (O.written out.new) (Ok tt) }
+{
+    match run(alloc, words, input, out) {
+        Ok(()) => 0,
+        Err(refusal) => refusal.report(alloc, err),
+    }
+}

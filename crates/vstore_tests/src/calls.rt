@@ -1,0 +1,140 @@
+use exact_json::{Lines, Next, read_line};
+use json_lines::LineFault;
+use json_tree::{
+    Items, Members, MembersFault, Number, Tree, copy, depth, print, print_text, same, text_len,
+};
+use outside::{MemSink, MemSource, Sink, Source, StdSink, StdSource, write_all};
+use std::test::Fail;
+use vs_bytes::{Bytes, Text};
+
+#[test]
+fn texts_and_bytes_hold_what_they_were_made_of(rt: HostRuntime) -> Result<(), Fail> {
+    let alloc = rt.alloc();
+    let text = Text::from_str(alloc, "h\u{e9}")?;
+    assert_eq!(&rt; text.as_bytes(), [0x68, 0xc3, 0xa9].as_slice());
+    assert!(&rt; text < Text::from_str(alloc, "i")?);
+    let bytes = Bytes::from_slice(alloc, b"\xff\n")?;
+    assert_eq!(&rt; bytes.as_slice(), [0xff, 0x0a].as_slice());
+    Ok(())
+}
+
+#[test]
+fn a_tree_is_made_printed_measured_and_copied(rt: HostRuntime) -> Result<(), Fail> {
+    let alloc = rt.alloc();
+    let mut items = Items::new(alloc);
+    items.push(Tree::Num(Number { whole: -5 }))?;
+    items.push(Tree::Bool(true))?;
+    let mut pairs = Vec::new(alloc);
+    pairs.push((Text::from_str(alloc, "b")?, Tree::Array(items)))?;
+    pairs.push((Text::from_str(alloc, "a\"\u{1}\n")?, Tree::Null))?;
+    let Ok(members) = Members::from_pairs(pairs) else {
+        assert!(&rt; false, "no name stands twice");
+        return Ok(());
+    };
+    assert_eq!(&rt; members.name(0), "a\"\u{1}\n");
+    assert!(&rt; members.get("b").is_some());
+    assert!(&rt; members.get("c").is_none());
+    let tree = Tree::Object(members);
+    let mut text = Vec::new(alloc);
+    print(&mut text, &tree)?;
+    assert_eq!(&rt;
+        text.as_slice(),
+        b"{\"a\\\"\\u0001\\n\":null,\"b\":[-5,true]}".as_slice()
+    );
+    assert_eq!(&rt; text_len(&tree), 34);
+    assert_eq!(&rt; depth(&tree), 2);
+    let twin = copy(alloc, &tree)?;
+    assert!(&rt; same(&tree, &twin));
+    assert!(&rt; !same(&tree, &Tree::Null));
+    Ok(())
+}
+
+#[test]
+fn a_repeated_name_is_refused(rt: HostRuntime) -> Result<(), Fail> {
+    let alloc = rt.alloc();
+    let mut pairs = Vec::new(alloc);
+    for name in ["b", "a", "b"] {
+        pairs.push((Text::from_str(alloc, name)?, Tree::Null))?;
+    }
+    assert!(&rt; matches!(Members::from_pairs(pairs), Err(MembersFault::Repeated)));
+    Ok(())
+}
+
+#[test]
+fn a_text_is_printed_with_its_escapes(rt: HostRuntime) -> Result<(), Fail> {
+    let mut text = Vec::new(rt.alloc());
+    print_text(&mut text, "\u{8}\t\n\u{c}\r\"\\/\u{1f}\u{7f}\u{e9}")?;
+    assert_eq!(&rt;
+        text.as_slice(),
+        b"\"\\b\\t\\n\\f\\r\\\"\\\\/\\u001f\x7f\xc3\xa9\"".as_slice()
+    );
+    Ok(())
+}
+
+#[test]
+fn a_line_is_read(rt: HostRuntime) -> Result<(), Fail> {
+    let alloc = rt.alloc();
+    let mut text = Vec::new(alloc);
+    let Ok(tree) = read_line(alloc, b" { \"b\" : [ 1 , null ] , \"a\" : \"x\" } ") else {
+        assert!(&rt; false, "the line is plain");
+        return Ok(());
+    };
+    print(&mut text, &tree)?;
+    assert_eq!(&rt; text.as_slice(), b"{\"a\":\"x\",\"b\":[1,null]}".as_slice());
+    Ok(())
+}
+
+// The lines of a limited input: a line, then the line that the limit falls into; and again.
+#[test]
+fn lines_end_at_the_limit_and_answer_the_same_again(rt: HostRuntime) -> Result<(), Fail> {
+    let alloc = rt.alloc();
+    let mut source = MemSource::new(Vec::from_slice(alloc, b"1\n2\n3")?, 64, Vec::new(alloc));
+    let Ok(mut lines) = Lines::new(alloc, 3) else {
+        assert!(&rt; false, "there is memory");
+        return Ok(());
+    };
+    match lines.next(&mut source) {
+        Ok(Next::Line { number, bytes }) => {
+            assert_eq!(&rt; number, 1);
+            assert_eq!(&rt; bytes.as_slice(), b"1".as_slice());
+        }
+        _ => assert!(&rt; false, "the first line is given"),
+    }
+    for _turn in 0..2 {
+        assert!(&rt; matches!(lines.next(&mut source), Err(LineFault::InputTooLong)));
+    }
+    // The whole input is as long as the limit.
+    let mut source = MemSource::new(Vec::from_slice(alloc, b"1\n2")?, 64, Vec::new(alloc));
+    let Ok(mut lines) = Lines::new(alloc, 3) else {
+        assert!(&rt; false, "there is memory");
+        return Ok(());
+    };
+    for _turn in 0..2 {
+        assert!(&rt; matches!(lines.next(&mut source), Ok(Next::Line { .. })));
+    }
+    for _turn in 0..2 {
+        assert!(&rt; matches!(lines.next(&mut source), Ok(Next::End)));
+    }
+    Ok(())
+}
+
+#[test]
+fn all_bytes_reach_a_sink_that_takes_few(rt: HostRuntime) -> Result<(), Fail> {
+    let alloc = rt.alloc();
+    let mut sink = MemSink::in_pieces(alloc, 3, Vec::new(alloc));
+    write_all(&mut sink, b"eleven byte")?;
+    assert_eq!(&rt; sink.bytes(), b"eleven byte".as_slice());
+    Ok(())
+}
+
+// The readers and writers of std, over bytes in memory.
+#[test]
+fn std_streams_pass_bytes_on(rt: HostRuntime) -> Result<(), Fail> {
+    let mut source = StdSource::new(b"abc".as_slice());
+    let mut into = [0u8; 2];
+    assert_eq!(&rt; source.read(&mut into)?, 2);
+    assert_eq!(&rt; into.as_slice(), b"ab".as_slice());
+    let mut sink = StdSink::new(Vec::new(rt.alloc()));
+    assert_eq!(&rt; sink.write(b"xyz")?, 3);
+    Ok(())
+}

@@ -1,0 +1,372 @@
+use crate::runs::{check, run};
+use std::alloc::Global;
+use std::test::Fail;
+
+// A row: path, input, output. The status is 0, and the error output is empty.
+#[test]
+fn scan_prints_the_match_of_each_document(rt: HostRuntime) -> Result<(), Fail> {
+    let rows: [(&str, &[u8], &[u8]); 22] = [
+        (
+            "$.a",
+            b"{\"a\":1}\n{\"b\":2}\n{\"a\":null}\n",
+            b"{\"$.a\":1}\n{}\n{\"$.a\":null}\n",
+        ),
+        ("$.b", b"{\"b\":null}\n{}\n", b"{\"$.b\":null}\n{}\n"),
+        (
+            "$",
+            b"-9223372036854775808\n",
+            b"{\"$\":-9223372036854775808}\n",
+        ),
+        (
+            "$",
+            b"9223372036854775807\n",
+            b"{\"$\":9223372036854775807}\n",
+        ),
+        ("$", b"0", b"{\"$\":0}\n"),
+        (
+            "$",
+            b" true\n\tfalse\r\nnull",
+            b"{\"$\":true}\n{\"$\":false}\n{\"$\":null}\n",
+        ),
+        (
+            "$.a.b",
+            b"{\"a\":{\"b\":7}}\n{\"a\":[{\"b\":7}]}\n{\"a\":7}\n",
+            b"{\"$.a.b\":7}\n{}\n{}\n",
+        ),
+        // The names of an object are printed in the order of their bytes.
+        (
+            "$",
+            b"{\"b\":1,\"a\":{\"d\":[],\"c\":{}}}\n",
+            b"{\"$\":{\"a\":{\"c\":{},\"d\":[]},\"b\":1}}\n",
+        ),
+        (
+            "$",
+            b"[ 1 , [ 2 ,3 ] , \"x\" ]\n",
+            b"{\"$\":[1,[2,3],\"x\"]}\n",
+        ),
+        (
+            "$",
+            b"[\"\xc3\xa9\",\"\xf0\x9f\x98\x80\"]\n",
+            b"{\"$\":[\"\xc3\xa9\",\"\xf0\x9f\x98\x80\"]}\n",
+        ),
+        ("$", b"\"\x7f/\"\n", b"{\"$\":\"\x7f/\"}\n"),
+        (
+            "$.a_1.B",
+            b"{\"a_1\":{\"B\":\"\"}}",
+            b"{\"$.a_1.B\":\"\"}\n",
+        ),
+        ("$._", b"{\"_\":[]}", b"{\"$._\":[]}\n"),
+        // A name that is a prefix of the asked one, and one that goes on behind it, are other names.
+        ("$.ab", b"{\"a\":1,\"abc\":2}\n", b"{}\n"),
+        // A member whose name has dots is no step of a path.
+        ("$.a.b", b"{\"a.b\":1}\n", b"{}\n"),
+        ("$.a", b"", b""),
+        ("$.a", b"\n\n\n", b""),
+        ("$.a", b" \t\r\n\t\n   ", b""),
+        ("$", b"\n 1 \n\r\n2", b"{\"$\":1}\n{\"$\":2}\n"),
+        ("$.x", b"{\"x\":1,\"y\":{\"x\":1}}\r\n", b"{\"$.x\":1}\n"),
+        (
+            "$.e",
+            b"{\"a\":1,\"b\":2,\"c\":3,\"d\":4,\"e\":5,\"f\":6,\"g\":7}",
+            b"{\"$.e\":5}\n",
+        ),
+        (
+            "$.e",
+            b"{\"g\":1,\"f\":2,\"e\":5,\"d\":4,\"c\":3,\"b\":6,\"a\":7}",
+            b"{\"$.e\":5}\n",
+        ),
+    ];
+    for (path, input, out) in rows {
+        check(&rt, rt.alloc(), &["scan", path], input, 0, out, b"")?;
+    }
+    Ok(())
+}
+
+// A row: a first line that spells nothing that is read.
+#[test]
+fn a_line_that_is_not_plain_is_refused_at_its_number(rt: HostRuntime) -> Result<(), Fail> {
+    let rows: [&[u8]; 46] = [
+        b"9223372036854775808",
+        b"-9223372036854775809",
+        b"1.5",
+        b"1e2",
+        b"-0",
+        b"01",
+        b"-01",
+        b"+1",
+        b".5",
+        b"1.",
+        b"1e",
+        b"-",
+        b"--1",
+        b"NaN",
+        b"1 2",
+        b"0x1",
+        b"\"\\n\"",
+        b"\"\\ud800\"",
+        b"\"a",
+        b"\"",
+        b"\"\t\"",
+        b"\"\x00\"",
+        b"'a'",
+        b"{\"a\":1,\"a\":2}",
+        b"{\"b\":1,\"a\":2,\"b\":3}",
+        b"{\"a\":1,}",
+        b"{,}",
+        b"{\"a\"}",
+        b"{\"a\":}",
+        b"{a:1}",
+        b"{1:2}",
+        b"{\"a\":1",
+        b"{\"a\":1]",
+        b"[1,]",
+        b"[,1]",
+        b"[1 2]",
+        b"[",
+        b"]",
+        b"[1}",
+        b"[1]]",
+        b"nul",
+        b"nulll",
+        b"True",
+        b"\xef\xbb\xbf1",
+        b"\xff",
+        b"\"\xc3\"",
+    ];
+    for line in rows {
+        check(
+            &rt,
+            rt.alloc(),
+            &["scan", "$"],
+            line,
+            3,
+            b"",
+            b"vstore: line 1: NotPlain\n",
+        )?;
+    }
+    Ok(())
+}
+
+#[test]
+fn the_lines_before_a_refused_one_are_answered(rt: HostRuntime) -> Result<(), Fail> {
+    check(
+        &rt,
+        rt.alloc(),
+        &["scan", "$"],
+        b"\n01\n",
+        3,
+        b"",
+        b"vstore: line 2: NotPlain\n",
+    )?;
+    check(
+        &rt,
+        rt.alloc(),
+        &["scan", "$.a"],
+        b"{\"a\":1}\n\n{}\r\n{\"a\":01}\n{\"a\":5}\n",
+        3,
+        b"{\"$.a\":1}\n{}\n",
+        b"vstore: line 4: NotPlain\n",
+    )?;
+    check(
+        &rt,
+        rt.alloc(),
+        &["scan", "$"],
+        b"1\r2\n",
+        3,
+        b"",
+        b"vstore: line 1: NotPlain\n",
+    )?;
+    check(
+        &rt,
+        rt.alloc(),
+        &["scan", "$"],
+        b"1\n\x00\x01\x02\n",
+        3,
+        b"{\"$\":1}\n",
+        b"vstore: line 2: NotPlain\n",
+    )
+}
+
+#[test]
+fn words_that_are_no_command_are_usage(rt: HostRuntime) -> Result<(), Fail> {
+    let usage = b"vstore: usage\n";
+    check(&rt, rt.alloc(), &[], b"01", 2, b"", usage)?;
+    check(&rt, rt.alloc(), &["scan"], b"01", 2, b"", usage)?;
+    check(
+        &rt,
+        rt.alloc(),
+        &["scan", "$.a", "$.b"],
+        b"01",
+        2,
+        b"",
+        usage,
+    )?;
+    check(&rt, rt.alloc(), &["Scan", "$.a"], b"01", 2, b"", usage)?;
+    check(&rt, rt.alloc(), &["scan ", "$.a"], b"01", 2, b"", usage)?;
+    check(&rt, rt.alloc(), &["", "$.a"], b"01", 2, b"", usage)?;
+    check(&rt, rt.alloc(), &["query", "f"], b"01", 2, b"", usage)?;
+    check(&rt, rt.alloc(), &["variant", "$"], b"01", 2, b"", usage)
+}
+
+#[test]
+fn a_word_that_is_no_path_is_refused_before_the_input_is_read(rt: HostRuntime) -> Result<(), Fail> {
+    let words = [
+        "", "a", "$.", "$..a", "$.a.", "$a", ".a", "$.1", "$.a-b", "$.a b", "$.a ", " $.a", "$$",
+        "$.\u{e9}", "$[0]", "$[*]", "$[\"a\"]", "--x", "-", "--", "$.a\n",
+    ];
+    for word in words {
+        check(
+            &rt,
+            rt.alloc(),
+            &["scan", word],
+            b"01",
+            2,
+            b"",
+            b"vstore: bad path\n",
+        )?;
+    }
+    Ok(())
+}
+
+// `$` and so many steps, each with a name of so many letters.
+fn long_path(alloc: Global, steps: usize, letters: usize) -> Result<String, Fail> {
+    let mut path = String::from_str(alloc, "$")?;
+    for _step in 0..steps {
+        path.push_str(".")?;
+        for _letter in 0..letters {
+            path.push_str("a")?;
+        }
+    }
+    Ok(path)
+}
+
+#[test]
+fn a_path_has_at_most_64_steps_and_4096_bytes(rt: HostRuntime) -> Result<(), Fail> {
+    // 64 steps, 65 steps; 1 + 1 + 4094 bytes, and one letter more
+    let rows = [
+        (64usize, 1usize, true),
+        (65, 1, false),
+        (1, 4094, true),
+        (1, 4095, false),
+    ];
+    for (steps, letters, is_path) in rows {
+        let path = long_path(rt.alloc(), steps, letters)?;
+        let words = ["scan", path.as_str()];
+        let answer = run(rt.alloc(), &words, b"1\n", 64)?;
+        assert_eq!(&rt;
+            answer.status,
+            if is_path { 0 } else { 2 },
+            "{steps} steps of {letters} letters"
+        );
+    }
+    Ok(())
+}
+
+// So many copies of some bytes.
+fn many(alloc: Global, bytes: &[u8], count: usize) -> Result<Vec<u8>, Fail> {
+    let mut all = Vec::new(alloc);
+    for _copy in 0..count {
+        all.extend_from_slice(bytes)?;
+    }
+    Ok(all)
+}
+
+#[test]
+fn arrays_nest_64_deep_and_no_deeper(rt: HostRuntime) -> Result<(), Fail> {
+    let mut deep = many(rt.alloc(), b"[", 64)?;
+    deep.extend_from_slice(many(rt.alloc(), b"]", 64)?.as_slice())?;
+    let mut out = many(rt.alloc(), b"{\"$\":", 1)?;
+    out.extend_from_slice(deep.as_slice())?;
+    out.extend_from_slice(b"}\n")?;
+    check(
+        &rt,
+        rt.alloc(),
+        &["scan", "$"],
+        deep.as_slice(),
+        0,
+        out.as_slice(),
+        b"",
+    )?;
+    let mut deeper = many(rt.alloc(), b"[", 65)?;
+    deeper.extend_from_slice(many(rt.alloc(), b"]", 65)?.as_slice())?;
+    check(
+        &rt,
+        rt.alloc(),
+        &["scan", "$"],
+        deeper.as_slice(),
+        3,
+        b"",
+        b"vstore: line 1: NotPlain\n",
+    )?;
+    // Brackets within a string open nothing.
+    let mut quoted = many(rt.alloc(), b"\"", 1)?;
+    quoted.extend_from_slice(many(rt.alloc(), b"[", 65)?.as_slice())?;
+    quoted.extend_from_slice(b"\"")?;
+    check(
+        &rt,
+        rt.alloc(),
+        &["scan", "$.a"],
+        quoted.as_slice(),
+        0,
+        b"{}\n",
+        b"",
+    )?;
+    check(
+        &rt,
+        rt.alloc(),
+        &["scan", "$"],
+        many(rt.alloc(), b"{\"a\":", 65)?.as_slice(),
+        3,
+        b"",
+        b"vstore: line 1: NotPlain\n",
+    )
+}
+
+#[test]
+fn a_line_has_at_most_1048576_bytes(rt: HostRuntime) -> Result<(), Fail> {
+    // A number behind white space; the LF counts for no line.
+    let mut line = many(rt.alloc(), b" ", 1_048_575)?;
+    line.extend_from_slice(b"7\n8\n")?;
+    let longest = run(rt.alloc(), &["scan", "$"], line.as_slice(), 65_536)?;
+    assert_eq!(&rt; longest.out.bytes(), b"{\"$\":7}\n{\"$\":8}\n".as_slice());
+    assert_eq!(&rt; longest.status, 0);
+    let mut line = many(rt.alloc(), b" ", 1_048_576)?;
+    line.extend_from_slice(b"7\n8\n")?;
+    let longer = run(rt.alloc(), &["scan", "$"], line.as_slice(), 65_536)?;
+    assert_eq!(&rt; longer.out.bytes(), b"".as_slice());
+    assert_eq!(&rt;
+        longer.err.bytes(),
+        b"vstore: line 1: NotPlain\n".as_slice()
+    );
+    assert_eq!(&rt; longer.status, 3);
+    // Blank lines have the same limit, and a line without end is refused without being held whole.
+    let blank = run(
+        rt.alloc(),
+        &["scan", "$"],
+        many(rt.alloc(), b" ", 1_048_576)?.as_slice(),
+        65_536,
+    )?;
+    assert_eq!(&rt; blank.status, 0);
+    let endless = run(
+        rt.alloc(),
+        &["scan", "$"],
+        many(rt.alloc(), b"        ", 400_000)?.as_slice(),
+        65_536,
+    )?;
+    assert_eq!(&rt;
+        endless.err.bytes(),
+        b"vstore: line 1: NotPlain\n".as_slice()
+    );
+    Ok(())
+}
+
+// Output of more than a piece is written whole and in order.
+#[test]
+fn output_of_many_pieces_is_written_whole(rt: HostRuntime) -> Result<(), Fail> {
+    let input = many(rt.alloc(), b"{\"a\":123456789}\n", 20_000)?;
+    let out = many(rt.alloc(), b"{\"$.a\":123456789}\n", 20_000)?;
+    let all = run(rt.alloc(), &["scan", "$.a"], input.as_slice(), 4096)?;
+    assert_eq!(&rt; all.status, 0);
+    assert!(&rt; all.out.bytes() == out.as_slice());
+    Ok(())
+}
