@@ -11,13 +11,13 @@ sizes=${*:-10 100}
 work=$(mktemp -d)
 trap 'rm -rf "$work"' EXIT
 
-# the least wall time in seconds of three runs, and the peak memory in MB
+# the least wall time in seconds of five runs, and the peak memory in KB
 timed() {
     local least="" memory="" run
-    for run in 1 2 3; do
+    for run in 1 2 3 4 5; do
         /usr/bin/time -f '%e %M' -o "$work/time" "$@" > "$work/out" < "$work/in"
         read -r wall peak < "$work/time"
-        if [ -z "$least" ] || [ "$(echo "$wall < $least" | bc -l 2>/dev/null || python3 -c "print(int($wall < $least))")" = 1 ]; then least=$wall; fi
+        least=$(python3 -c "print(min($wall, ${least:-$wall}))")
         memory=$peak
     done
     echo "$least $memory"
@@ -53,11 +53,19 @@ if command -v valgrind > /dev/null; then
     count() { valgrind --tool=callgrind --callgrind-out-file=/dev/null "$program" scan "$1" < "$work/in" 2>&1 > /dev/null | awk '/Collected/ {print $4}'; }
     : > "$work/in"
     start=$(count '$.a')
-    for shape in numbers records long wide; do
+    for shape in numbers records; do
         path='$.a'
         [ "$shape" = records ] && path='$.user.name'
         python3 "$here/generate.py" "$shape" 1000000 > "$work/in"
         bytes=$(stat -c %s "$work/in")
         echo "| $shape | $bytes | $(( ($(count "$path") - start) / bytes )) |"
+    done
+    # one line of growing size: an array of objects, and an object of many members in no order
+    for shape in long wide; do
+        for size in 125000 250000 500000 1000000; do
+            python3 "$here/generate.py" "$shape" "$size" > "$work/in"
+            bytes=$(stat -c %s "$work/in")
+            echo "| $shape | $bytes | $(( ($(count '$.a') - start) / bytes )) |"
+        done
     done
 fi

@@ -12,7 +12,7 @@ use Rattle.json_lines.specs.Next.{State, nothing, lines_ahead}
 use Rattle.exact_json.specs.Documents.{Ending, at_end, at_line, at_limit, Walks, HasDocuments, max_input}
 use Rattle.exact_json.proofs.Walks.{walked}
 use Rattle.variant_store.specs.Answer.{line_of, answer_of}
-use Rattle.variant_store.specs.Scan.{AnswersAll, AnswersFirst, AnswersPrefix, Scans}
+use Rattle.variant_store.specs.Scan.{AnswersAll, AnswersRead, AnswersPrefix, Scans}
 use Rattle.variant_store.specs.Gathered.{gathered, Extends, DrainsSome, Turns, GoesOn, StandsAt, StandsKnown, Stands, Gathers, GathersKnown, StillExtends, IsOfTurn, IsOfScan, Drains, cuts_off}
 use Rattle.variant_store.specs.declared.refusal.Refusal.{Refusal}
 use Rattle.variant_store.specs.declared.refusal.Refusal.TheVariants as refusal
@@ -99,7 +99,7 @@ stands_drained names input rest s old written new pending left h d =
     known (Some i) (Some r) k = record { documents = k.documents; gathers = Appends-kept old _ _ (answer_of names k.documents) k.gathers d.0; ahead = k.ahead }
 
 pub drain_failed : (names : List (List ℕ)) (input rest : Option (List ℕ)) (s : State) (old written new : Option (List ℕ)) (pending left : List ℕ) (f : Refusal) → Stands names input rest s old written pending → DrainsSome written new pending left (Err f)
-    → GathersKnown names input old new left (Err f)
+    → GathersKnown names input rest old new left (Err f)
 drain_failed names None rest s old written new pending left f h d = tt
 drain_failed names (Some i) None s old written new pending left f h d = absurd h.known
 drain_failed names (Some i) (Some r) s old written new pending left refusal.WriteFault h d = prefix_of_all names i r s old written new pending h.extends h.known d
@@ -137,14 +137,14 @@ all_of names i r s old written pending left ending k w same = (
 )
 
 pub turn_done : (names : List (List ℕ)) (input rest behind : Option (List ℕ)) (s t : State) (old written : Option (List ℕ)) (pending left : List ℕ) → Stands names input rest s old written pending → Turns names rest behind s t pending left (Ok Ended)
-    → GathersKnown names input old written left (Ok tt)
+    → GathersKnown names input behind old written left (Ok tt)
 turn_done names None rest behind s t old written pending left h u = tt
 turn_done names (Some i) None behind s t old written pending left h u = absurd h.known
 turn_done names (Some i) (Some r) None s t old written pending left h u = absurd u
 turn_done names (Some i) (Some r) (Some b) s t old written pending left h u = all_of names i r s old written pending left at_end h.known u.0 u.1
 
 pub turn_failed : (names : List (List ℕ)) (input rest behind : Option (List ℕ)) (s t : State) (old written : Option (List ℕ)) (pending left : List ℕ) (f : Refusal) → Stands names input rest s old written pending → Turns names rest behind s t pending left (Err f)
-    → GathersKnown names input old written left (Err f)
+    → GathersKnown names input behind old written left (Err f)
 turn_failed names None rest behind s t old written pending left f h u = tt
 turn_failed names (Some i) None behind s t old written pending left f h u = absurd h.known
 turn_failed names (Some i) (Some r) None s t old written pending left f h u = absurd u
@@ -152,8 +152,17 @@ turn_failed names (Some i) (Some r) (Some b) s t old written pending left (refus
 turn_failed names (Some i) (Some r) (Some b) s t old written pending left refusal.InputTooLong h u = all_of names i r s old written pending left at_limit h.known u.0 u.1
 turn_failed names (Some i) (Some r) (Some b) s t old written pending left refusal.ReadFault h u =
     let k = h.known in
-    let w = walked (lines_ahead s r) s.number in
-    (k.documents, w.documents, w.ending, k.ahead w.documents w.ending w.walks, subst (λ (q : List ℕ). Appends old (gathered written q) (answer_of names k.documents)) (sym u) k.gathers)
+    record {
+      documents = k.documents;
+      appends = subst (λ (q : List ℕ). Appends old (gathered written q) (answer_of names k.documents)) (sym u.0) k.gathers;
+      number = t.number;
+      room = t.room;
+      held = t.held;
+      rest = b;
+      is_left = refl;
+      no_lf = u.1;
+      ahead = λ more ending w. k.ahead more ending (u.2 more ending w);
+    }
 turn_failed names (Some i) (Some r) (Some b) s t old written pending left refusal.NoMemory h u = prefix_of_all names i r s old written written pending h.extends h.known (no_prefix written pending)
 turn_failed names (Some i) (Some r) (Some b) s t old written pending left refusal.WriteFault h u = absurd u
 turn_failed names (Some i) (Some r) (Some b) s t old written pending left refusal.Usage h u = absurd u
@@ -206,28 +215,37 @@ all_cut : (names : List (List ℕ)) (input : List ℕ) (ending : Ending) (old wr
 all_cut names input ending old written new pending x h p =
     (h.0, ending, h.1, subst (λ (t : List ℕ). AppendsPrefix old new t) (append-nil (answer_of names h.0)) (prefix_written old written new pending (answer_of names h.0) [] x h.2 p))
 
-gathered_cut : (names : List (List ℕ)) (input : List ℕ) (old written new : Option (List ℕ)) (pending : List ℕ) (done : Result (Unit {0}) Refusal) → Gathers names input old written pending done → StillExtends old written done → cuts_off done ≡ false
+gathered_cut : (names : List (List ℕ)) (input : List ℕ) (rest old written new : Option (List ℕ)) (pending : List ℕ) (done : Result (Unit {0}) Refusal) → Gathers names input rest old written pending done → StillExtends old written done → cuts_off done ≡ false
     → AppendsPrefix written new pending → AnswersPrefix names input old new
-gathered_cut names input old written new pending (Ok u) h x e p = all_cut names input at_end old written new pending x h p
-gathered_cut names input old written new pending (Err (refusal.NotPlain n)) h x e p = all_cut names input (at_line n) old written new pending x h p
-gathered_cut names input old written new pending (Err refusal.InputTooLong) h x e p = all_cut names input at_limit old written new pending x h p
-gathered_cut names input old written new pending (Err refusal.ReadFault) h x e p =
-    (h.0 ++ h.1, h.2, h.3, subst (λ (t : List ℕ). AppendsPrefix old new t) (sym (answer-append names h.0 h.1)) (prefix_written old written new pending (answer_of names h.0) (answer_of names h.1) x h.4 p))
-gathered_cut names input old written new pending (Err refusal.WriteFault) h x e p = cc
-gathered_cut names input old written new pending (Err refusal.NoMemory) h x e p = cc
-gathered_cut names input old written new pending (Err refusal.Usage) h x e p = cc
-gathered_cut names input old written new pending (Err refusal.BadPath) h x e p = cc
+gathered_cut names input rest old written new pending (Ok u) h x e p = all_cut names input at_end old written new pending x h p
+gathered_cut names input rest old written new pending (Err (refusal.NotPlain n)) h x e p = all_cut names input (at_line n) old written new pending x h p
+gathered_cut names input rest old written new pending (Err refusal.InputTooLong) h x e p = all_cut names input at_limit old written new pending x h p
+gathered_cut names input rest old written new pending (Err refusal.ReadFault) h x e p =
+    let w = walked (lines_of h.room (h.held ++ h.rest)) h.number in (
+      h.documents ++ w.documents,
+      w.ending,
+      h.ahead w.documents w.ending w.walks,
+      subst (λ (t : List ℕ). AppendsPrefix old new t) (sym (answer-append names h.documents w.documents)) (prefix_written old written new pending (answer_of names h.documents) (answer_of names w.documents) x h.appends p),
+    )
+gathered_cut names input rest old written new pending (Err refusal.WriteFault) h x e p = cc
+gathered_cut names input rest old written new pending (Err refusal.NoMemory) h x e p = cc
+gathered_cut names input rest old written new pending (Err refusal.Usage) h x e p = cc
+gathered_cut names input rest old written new pending (Err refusal.BadPath) h x e p = cc
 
-pub scan_cut : (names : List (List ℕ)) (input : Option (List ℕ)) (old written new : Option (List ℕ)) (pending left : List ℕ) (done : Result (Unit {0}) Refusal) (f : Refusal) → GathersKnown names input old written pending done → StillExtends old written done
-    → cuts_off done ≡ false → Drains written new pending left (Err f) → Scans names input old new (Err f)
-scan_cut names None old written new pending left done f h x e d = tt
-scan_cut names (Some i) old written new pending left done refusal.WriteFault h x e d = gathered_cut names i old written new pending done h x e d
-scan_cut names (Some i) old written new pending left done refusal.NoMemory h x e d = gathered_cut names i old written new pending done h x e d
-scan_cut names (Some i) old written new pending left done (refusal.NotPlain n) h x e d = absurd d
-scan_cut names (Some i) old written new pending left done refusal.InputTooLong h x e d = absurd d
-scan_cut names (Some i) old written new pending left done refusal.ReadFault h x e d = absurd d
-scan_cut names (Some i) old written new pending left done refusal.Usage h x e d = absurd d
-scan_cut names (Some i) old written new pending left done refusal.BadPath h x e d = absurd d
+pub scan_cut : (names : List (List ℕ)) (input rest old written new : Option (List ℕ)) (pending left : List ℕ) (done : Result (Unit {0}) Refusal) (f : Refusal) → GathersKnown names input rest old written pending done → StillExtends old written done
+    → cuts_off done ≡ false → Drains written new pending left (Err f) → Scans names input rest old new (Err f)
+scan_cut names None rest old written new pending left done f h x e d = tt
+scan_cut names (Some i) rest old written new pending left done refusal.WriteFault h x e d = gathered_cut names i rest old written new pending done h x e d
+scan_cut names (Some i) rest old written new pending left done refusal.NoMemory h x e d = gathered_cut names i rest old written new pending done h x e d
+scan_cut names (Some i) rest old written new pending left done (refusal.NotPlain n) h x e d = absurd d
+scan_cut names (Some i) rest old written new pending left done refusal.InputTooLong h x e d = absurd d
+scan_cut names (Some i) rest old written new pending left done refusal.ReadFault h x e d = absurd d
+scan_cut names (Some i) rest old written new pending left done refusal.Usage h x e d = absurd d
+scan_cut names (Some i) rest old written new pending left done refusal.BadPath h x e d = absurd d
+
+pub scan_unstarted : (names : List (List ℕ)) (input rest written : Option (List ℕ)) → Scans names input rest written written (Err refusal.NoMemory)
+scan_unstarted names None rest written = tt
+scan_unstarted names (Some i) rest written = let w = walked (lines_of max_input i) 0 in (w.documents, w.ending, w.walks, no_prefix written (answer_of names w.documents))
 
 written_all : (old written new : Option (List ℕ)) (pending answer : List ℕ) → Appends old (gathered written pending) answer → Appends written new pending → Appends old new answer
 written_all None written new pending answer g d = tt
@@ -235,18 +253,24 @@ written_all (Some a) None new pending answer g d = absurd g
 written_all (Some a) (Some b) None pending answer g d = absurd d
 written_all (Some a) (Some b) (Some c) pending answer g d = d ∙ g
 
-pub scan_done : (names : List (List ℕ)) (input : Option (List ℕ)) (old written new : Option (List ℕ)) (pending left : List ℕ) (done : Result (Unit {0}) Refusal) → GathersKnown names input old written pending done
-    → cuts_off done ≡ false → Drains written new pending left (Ok tt) → Scans names input old new done
-scan_done names None old written new pending left done h e d = tt
-scan_done names (Some i) old written new pending left (Ok u) h e d = (h.0, h.1, written_all old written new pending _ h.2 d.0)
-scan_done names (Some i) old written new pending left (Err (refusal.NotPlain n)) h e d = (h.0, h.1, written_all old written new pending _ h.2 d.0)
-scan_done names (Some i) old written new pending left (Err refusal.InputTooLong) h e d = (h.0, h.1, written_all old written new pending _ h.2 d.0)
-scan_done names (Some i) old written new pending left (Err refusal.ReadFault) h e d = (h.0, h.1, h.2, h.3, written_all old written new pending _ h.4 d.0)
-scan_done names (Some i) old written new pending left (Err refusal.WriteFault) h e d = cc
-scan_done names (Some i) old written new pending left (Err refusal.NoMemory) h e d = cc
-scan_done names (Some i) old written new pending left (Err refusal.Usage) h e d = cc
-scan_done names (Some i) old written new pending left (Err refusal.BadPath) h e d = cc
-
-pub scan_unstarted : (names : List (List ℕ)) (input written : Option (List ℕ)) → Scans names input written written (Err refusal.NoMemory)
-scan_unstarted names None written = tt
-scan_unstarted names (Some i) written = let w = walked (lines_of max_input i) 0 in (w.documents, w.ending, w.walks, no_prefix written (answer_of names w.documents))
+pub scan_done : (names : List (List ℕ)) (input rest old written new : Option (List ℕ)) (pending left : List ℕ) (done : Result (Unit {0}) Refusal) → GathersKnown names input rest old written pending done
+    → cuts_off done ≡ false → Drains written new pending left (Ok tt) → Scans names input rest old new done
+scan_done names None rest old written new pending left done h e d = tt
+scan_done names (Some i) rest old written new pending left (Ok u) h e d = (h.0, h.1, written_all old written new pending _ h.2 d.0)
+scan_done names (Some i) rest old written new pending left (Err (refusal.NotPlain n)) h e d = (h.0, h.1, written_all old written new pending _ h.2 d.0)
+scan_done names (Some i) rest old written new pending left (Err refusal.InputTooLong) h e d = (h.0, h.1, written_all old written new pending _ h.2 d.0)
+scan_done names (Some i) rest old written new pending left (Err refusal.ReadFault) h e d = record {
+  documents = h.documents;
+  appends = written_all old written new pending _ h.appends d.0;
+  number = h.number;
+  room = h.room;
+  held = h.held;
+  rest = h.rest;
+  is_left = h.is_left;
+  no_lf = h.no_lf;
+  ahead = h.ahead;
+}
+scan_done names (Some i) rest old written new pending left (Err refusal.WriteFault) h e d = cc
+scan_done names (Some i) rest old written new pending left (Err refusal.NoMemory) h e d = cc
+scan_done names (Some i) rest old written new pending left (Err refusal.Usage) h e d = cc
+scan_done names (Some i) rest old written new pending left (Err refusal.BadPath) h e d = cc

@@ -1,11 +1,12 @@
 -- Lemmas on one turn of the walk over the lines of an input.
-use Rattle.std.proofs.Common.{◌≡◌, ℕ, List, [], ◌∷◌, ◌++◌, refl, sym, ap, subst, ◌∙◌, Option, Some, None, Result, Ok, Err}
+use Rattle.std.proofs.Common.{◌≡◌, ℕ, List, [], ◌∷◌, ◌++◌, refl, sym, ap, subst, ◌∙◌, Option, Some, None, Result, Ok, Err, Bool, true, false, cond, ◌+◌}
 use Rattle.json_tree.specs.Json.{Json}
-use Rattle.json_lines.specs.Next.{State, ComesFrom, lines_ahead}
+use Rattle.json_lines.specs.Next.{State, ComesFrom, lines_ahead, found}
 use Rattle.json_lines.specs.declared.line_reader.Next.TheVariants as next
 use Rattle.json_lines.specs.declared.line_reader.LineFault.TheVariants as fault
-use Rattle.exact_json.specs.Documents.{Ending, at_line, Walks}
-use Rattle.exact_json.proofs.Walks.{walk_document, walk_refused, walk_long, walk_end, walk_over}
+use Rattle.exact_json.specs.Documents.{Ending, at_end, at_line, at_limit, Verdict, blank, document, refused, Judges, Walks}
+use Rattle.json_lines.specs.Cut.{Lines, none, last, over, line, Found, found_end, found_line, found_long, found_over, first_line, is_long, is_blank}
+use Rattle.exact_json.proofs.Walks.{walk_document, walk_refused, walk_long, walk_end, walk_over, walked, walks_once, judge}
 use Rattle.variant_store.specs.Gathered.{GathersLine, Turns}
 use Rattle.variant_store.specs.declared.refusal.Refusal.{Refusal}
 use Rattle.variant_store.specs.declared.refusal.Refusal.TheVariants as refusal
@@ -45,3 +46,51 @@ turn_refused names (Some rest) (Some behind) s t p q n bytes refusal.ReadFault c
 turn_refused names (Some rest) (Some behind) s t p q n bytes refusal.WriteFault c g = absurd g
 turn_refused names (Some rest) (Some behind) s t p q n bytes refusal.Usage c g = absurd g
 turn_refused names (Some rest) (Some behind) s t p q n bytes refusal.BadPath c g = absurd g
+
+-- a line that is found isn't blank
+found_not_blank : (ls : Lines) (n m : ℕ) (l : List ℕ) (behind : Lines) → first_line n ls ≡ found_line m l behind → is_blank l ≡ false
+found_not_blank none n m l behind e = cc
+found_not_blank (over k) n m l behind e = by (is_long k) e
+  where
+    by : (b : Bool) → cond b (found_long (n + 1)) found_over ≡ found_line m l behind → is_blank l ≡ false
+    by true f = cc
+    by false f = cc
+found_not_blank (last k) n m l behind e = by (is_long k) (is_blank k) refl e
+  where
+    by : (b c : Bool) → is_blank k ≡ c → cond b (found_long (n + 1)) (cond c found_end (found_line (n + 1) k none)) ≡ found_line m l behind → is_blank l ≡ false
+    by true c g f = cc
+    by false true g f = cc
+    by false false g f = let same : k ≡ l = cc in subst (λ (x : List ℕ). is_blank x ≡ false) same g
+found_not_blank (line k ls) n m l behind e = by (is_long k) (is_blank k) refl e (λ f. found_not_blank ls (n + 1) m l behind f)
+  where
+    by : (b c : Bool) → is_blank k ≡ c → cond b (found_long (n + 1)) (cond c (first_line (n + 1) ls) (found_line (n + 1) k ls)) ≡ found_line m l behind → (first_line (n + 1) ls ≡ found_line m l behind → is_blank l ≡ false) → is_blank l ≡ false
+    by true c g f ih = cc
+    by false true g f ih = ih f
+    by false false g f ih = let same : k ≡ l = cc in subst (λ (x : List ℕ). is_blank x ≡ false) same g
+
+-- what is read of lines is what is read of others, where both walks are known
+as_walked : (ls ks : Lines) (n m : ℕ) (more known : List Json) (ending end : Ending) → Walks ls n more ending → Walks ls n known end → Walks ks m known end → Walks ks m more ending
+as_walked ls ks n m more known ending end w v x =
+    let same = walks_once ls n more known ending end w v in
+    subst (λ (ds : List Json). Walks ks m ds ending) (sym same.documents) (subst (λ (a : Ending). Walks ks m known a) (sym same.ending) x)
+
+-- lines of which the same comes first have the same documents
+same_walks : (ls ks : Lines) (n m : ℕ) (more : List Json) (ending : Ending) (first : Found) → first_line n ls ≡ first → first_line m ks ≡ first → Walks ls n more ending → Walks ks m more ending
+same_walks ls ks n m more ending found_end e f w = as_walked ls ks n m more [] ending at_end w (walk_end ls n e) (walk_end ks m f)
+same_walks ls ks n m more ending found_over e f w = as_walked ls ks n m more [] ending at_limit w (walk_over ls n e) (walk_over ks m f)
+same_walks ls ks n m more ending (found_long k) e f w = as_walked ls ks n m more [] ending (at_line k) w (walk_long ls n k e) (walk_long ks m k f)
+same_walks ls ks n m more ending (found_line k l behind) e f w = by (judge l)
+  where
+    by : (v : Verdict) × Judges l v → Walks ks m more ending
+    by (blank, j) = let not_blank = found_not_blank ls n k l behind e in cc
+    by (document json, j) =
+        let rest = walked behind k in
+        as_walked ls ks n m more (json ∷ rest.documents) ending rest.ending w
+        (walk_document ls n k l behind json rest.documents rest.ending e j.1 rest.walks) (walk_document ks m k l behind json rest.documents rest.ending f j.1 rest.walks)
+    by (refused, j) = as_walked ls ks n m more [] ending (at_line k) w (walk_refused ls n k l behind e j.1) (walk_refused ks m k l behind f j.1)
+
+pub turn_unread : (names : List (List ℕ)) (rest behind : Option (List ℕ)) (s t : State) (p : List ℕ) → ComesFrom rest behind s t (Err fault.ReadFault) → Turns names rest behind s t p p (Err refusal.ReadFault)
+turn_unread names None behind s t p c = tt
+turn_unread names (Some rest) None s t p c = absurd c
+turn_unread names (Some rest) (Some behind) s t p c =
+    (refl, c.1, λ more ending w. same_walks (lines_ahead t behind) (lines_ahead s rest) t.number s.number more ending (found s rest) c.0 refl w)

@@ -1,5 +1,5 @@
 -- Output that is gathered before it is written, and what a walk over the lines keeps true.
-use Rattle.std.specs.Prelude.{◌≡◌, ℕ, ◌<◌, List, [], ◌∷◌, ◌++◌, Option, None, Some, Result, Ok, Err, Bool, true, false}
+use Rattle.std.specs.Prelude.{◌≡◌, ℕ, ◌<◌, List, [], ◌∷◌, ◌++◌, Option, None, Some, Result, Ok, Err, Bool, true, false, Contains}
 use Rattle.std.specs.Io.KnownBytes.{Appends, Keeps, append_known}
 use Rattle.outside.specs.Devices.{AppendsPrefix}
 use Rattle.json_tree.specs.Json.{Json}
@@ -7,7 +7,7 @@ use Rattle.json_lines.specs.Next.{State, nothing, lines_ahead}
 use Rattle.exact_json.specs.Meaning.{Spells}
 use Rattle.exact_json.specs.Documents.{Ending, at_end, at_line, at_limit, Walks, HasDocuments}
 use Rattle.variant_store.specs.Answer.{line_of, answer_of}
-use Rattle.variant_store.specs.Scan.{AnswersAll, AnswersFirst, AnswersPrefix}
+use Rattle.variant_store.specs.Scan.{AnswersAll, AnswersRead, AnswersPrefix}
 use Rattle.variant_store.specs.declared.scan.Turn.{Turn}
 use Rattle.variant_store.specs.declared.scan.Turn.TheVariants.{More, Ended}
 use Rattle.variant_store.specs.declared.refusal.Refusal.{Refusal}
@@ -62,7 +62,8 @@ TurnsAt names rest behind s t old new (Ok More) = (json : Json) × (new ≡ old 
 TurnsAt names rest behind s t old new (Ok Ended) = Walks (lines_ahead s rest) s.number [] at_end × (new ≡ old)
 TurnsAt names rest behind s t old new (Err (refusal.NotPlain n)) = Walks (lines_ahead s rest) s.number [] (at_line n) × (new ≡ old)
 TurnsAt names rest behind s t old new (Err refusal.InputTooLong) = Walks (lines_ahead s rest) s.number [] at_limit × (new ≡ old)
-TurnsAt names rest behind s t old new (Err refusal.ReadFault) = new ≡ old
+TurnsAt names rest behind s t old new (Err refusal.ReadFault) = (new ≡ old) × (Contains t.held 10 → ⊥)
+    × ((more : List Json) (ending : Ending) → Walks (lines_ahead t behind) t.number more ending → Walks (lines_ahead s rest) s.number more ending)
 TurnsAt names rest behind s t old new (Err refusal.NoMemory) = new ≡ old
 TurnsAt names rest behind s t old new (Err refusal.WriteFault) = ⊥
 TurnsAt names rest behind s t old new (Err refusal.Usage) = ⊥
@@ -110,20 +111,20 @@ pub record Stands (names : List (List ℕ)) (input rest : Option (List ℕ)) (st
   pub known : StandsKnown names input rest state old new pending
 
 -- what a walk over the lines has gathered, by how it ends
-abbrev pub Gathers : List (List ℕ) → List ℕ → Option (List ℕ) → Option (List ℕ) → List ℕ → Result (Unit {0}) Refusal → Type 0
-Gathers names input old new pending (Ok _) = AnswersAll names input at_end old (gathered new pending)
-Gathers names input old new pending (Err (refusal.NotPlain n)) = AnswersAll names input (at_line n) old (gathered new pending)
-Gathers names input old new pending (Err refusal.InputTooLong) = AnswersAll names input at_limit old (gathered new pending)
-Gathers names input old new pending (Err refusal.ReadFault) = AnswersFirst names input old (gathered new pending)
-Gathers names input old new pending (Err refusal.WriteFault) = AnswersPrefix names input old new
-Gathers names input old new pending (Err refusal.NoMemory) = AnswersPrefix names input old new
-Gathers names input old new pending (Err refusal.Usage) = ⊥
-Gathers names input old new pending (Err refusal.BadPath) = ⊥
+abbrev pub Gathers : List (List ℕ) → List ℕ → Option (List ℕ) → Option (List ℕ) → Option (List ℕ) → List ℕ → Result (Unit {0}) Refusal → Type 0
+Gathers names input left old new pending (Ok _) = AnswersAll names input at_end old (gathered new pending)
+Gathers names input left old new pending (Err (refusal.NotPlain n)) = AnswersAll names input (at_line n) old (gathered new pending)
+Gathers names input left old new pending (Err refusal.InputTooLong) = AnswersAll names input at_limit old (gathered new pending)
+Gathers names input left old new pending (Err refusal.ReadFault) = AnswersRead names input left old (gathered new pending)
+Gathers names input left old new pending (Err refusal.WriteFault) = AnswersPrefix names input old new
+Gathers names input left old new pending (Err refusal.NoMemory) = AnswersPrefix names input old new
+Gathers names input left old new pending (Err refusal.Usage) = ⊥
+Gathers names input left old new pending (Err refusal.BadPath) = ⊥
 
 -- the same where the input may be unknown
-abbrev pub GathersKnown : List (List ℕ) → Option (List ℕ) → Option (List ℕ) → Option (List ℕ) → List ℕ → Result (Unit {0}) Refusal → Type 0
-GathersKnown names None old new pending result = Unit {0}
-GathersKnown names (Some input) old new pending result = Gathers names input old new pending result
+abbrev pub GathersKnown : List (List ℕ) → Option (List ℕ) → Option (List ℕ) → Option (List ℕ) → Option (List ℕ) → List ℕ → Result (Unit {0}) Refusal → Type 0
+GathersKnown names None left old new pending result = Unit {0}
+GathersKnown names (Some input) left old new pending result = Gathers names input left old new pending result
 
 -- what was known before stays, where no write was refused
 abbrev pub StillExtends : Option (List ℕ) → Option (List ℕ) → Result (Unit {0}) Refusal → Type 0

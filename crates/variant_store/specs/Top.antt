@@ -11,19 +11,19 @@ use Rattle.variant_store.specs.declared.refusal.Refusal.{Refusal}
 use Rattle.variant_store.specs.declared.refusal.Refusal.TheVariants as refusal
 
 -- the words ask for a scan, and it went as it ends
-abbrev pub RunsScan : List (List ℕ) → Option (List ℕ) → Option (List ℕ) → Option (List ℕ) → Result (Unit {0}) Refusal → Type 0
-RunsScan words input old new done = (names : List (List ℕ)) × AskScan words names × Scans names input old new done
+abbrev pub RunsScan : List (List ℕ) → Option (List ℕ) → Option (List ℕ) → Option (List ℕ) → Option (List ℕ) → Result (Unit {0}) Refusal → Type 0
+RunsScan words input left old new done = (names : List (List ℕ)) × AskScan words names × Scans names input left old new done
 
 -- by how a call ends; the words are judged before any device is called
-abbrev pub Runs : List (List ℕ) → Option (List ℕ) → Option (List ℕ) → Option (List ℕ) → Type 0 → Result (Unit {0}) Refusal → Type 0
-Runs words input old new Untouched (Ok u) = RunsScan words input old new (Ok u)
-Runs words input old new Untouched (Err refusal.Usage) = AskNothing words × Untouched
-Runs words input old new Untouched (Err refusal.BadPath) = AskBadPath words × Untouched
-Runs words input old new Untouched (Err (refusal.NotPlain n)) = RunsScan words input old new (Err (refusal.NotPlain n))
-Runs words input old new Untouched (Err refusal.InputTooLong) = RunsScan words input old new (Err refusal.InputTooLong)
-Runs words input old new Untouched (Err refusal.ReadFault) = RunsScan words input old new (Err refusal.ReadFault)
-Runs words input old new Untouched (Err refusal.WriteFault) = RunsScan words input old new (Err refusal.WriteFault)
-Runs words input old new Untouched (Err refusal.NoMemory) = Untouched ⊎ RunsScan words input old new (Err refusal.NoMemory)
+abbrev pub Runs : List (List ℕ) → Option (List ℕ) → Option (List ℕ) → Option (List ℕ) → Option (List ℕ) → Type 0 → Result (Unit {0}) Refusal → Type 0
+Runs words input left old new Untouched (Ok u) = RunsScan words input left old new (Ok u)
+Runs words input left old new Untouched (Err refusal.Usage) = AskNothing words × Untouched
+Runs words input left old new Untouched (Err refusal.BadPath) = AskBadPath words × Untouched
+Runs words input left old new Untouched (Err (refusal.NotPlain n)) = RunsScan words input left old new (Err (refusal.NotPlain n))
+Runs words input left old new Untouched (Err refusal.InputTooLong) = RunsScan words input left old new (Err refusal.InputTooLong)
+Runs words input left old new Untouched (Err refusal.ReadFault) = RunsScan words input left old new (Err refusal.ReadFault)
+Runs words input left old new Untouched (Err refusal.WriteFault) = RunsScan words input left old new (Err refusal.WriteFault)
+Runs words input left old new Untouched (Err refusal.NoMemory) = Untouched ⊎ RunsScan words input left old new (Err refusal.NoMemory)
 
 -- the status of a call and what the error output gained: nothing at 0, else the line of the refusal
 abbrev pub Ends : Result (Unit {0}) Refusal → ℕ → Option (List ℕ) → Option (List ℕ) → ℕ → ℕ → Type 0
@@ -31,9 +31,9 @@ Ends (Ok u) status old new before now = (status ≡ 0) × Keeps old new
 Ends (Err refusal) status old new before now = IsReported refusal status old new before now
 
 -- a call, with what its devices know and count before it and after it
-pub record IsAnswer (words : List (List ℕ)) (input old new : Option (List ℕ)) (Untouched : Type 0) (reads reads_now writes writes_now : ℕ) (err_old err_new : Option (List ℕ)) (faults faults_now status : ℕ) : Type 0 where
+pub record IsAnswer (words : List (List ℕ)) (input left old new : Option (List ℕ)) (Untouched : Type 0) (reads reads_now writes writes_now : ℕ) (err_old err_new : Option (List ℕ)) (faults faults_now status : ℕ) : Type 0 where
   pub done : Result (Unit {0}) Refusal
-  pub runs : Runs words input old new Untouched done
+  pub runs : Runs words input left old new Untouched done
   pub read_cause : HasCauseAt reads reads_now (IsErrOf done refusal.ReadFault)
   pub write_cause : HasCauseAt writes writes_now (IsErrOf done refusal.WriteFault)
   pub ends : Ends done status err_old err_new faults faults_now

@@ -121,7 +121,7 @@ fn walk<I: Source, O: Sink>(
 ) -> Result<(), Refusal>
     requires start { lines.old ≡ record { number = 0; room = max_input; held = []; kept = nothing } }
     requires none { pending.old.items ≡ [] }
-    ensures gathers { GathersKnown path.now.steps.items (I.left input.old) (O.written out.old) (O.written out.new) pending.new.items result }
+    ensures gathers { GathersKnown path.now.steps.items (I.left input.old) (I.left input.new) (O.written out.old) (O.written out.new) pending.new.items result }
     ensures extends { StillExtends (O.written out.old) (O.written out.new) result }
     ensures answers { IsOfScan result }
     ensures read_cause { HasCauseAt (I.faults input.old) (I.faults input.new) (IsErrOf result Refusal.ReadFault) }
@@ -161,7 +161,7 @@ pub fn scan<I: Source, O: Sink>(
     input: &mut I,
     out: &mut O,
 ) -> Result<(), Refusal>
-    ensures writes { Scans path.now.steps.items (I.left input.old) (O.written out.old) (O.written out.new) result }
+    ensures writes { Scans path.now.steps.items (I.left input.old) (I.left input.new) (O.written out.old) (O.written out.new) result }
     ensures answers { IsOfScan result }
     ensures read_cause { HasCauseAt (I.faults input.old) (I.faults input.new) (IsErrOf result Refusal.ReadFault) }
     ensures write_cause { HasCauseAt (O.faults out.old) (O.faults out.new) (IsErrOf result Refusal.WriteFault) }

@@ -20,7 +20,7 @@ fn run<I: Source, O: Sink>(
     input: &mut I,
     out: &mut O,
 ) -> Result<(), Refusal>
-    ensures runs { Runs words.now (I.left input.old) (O.written out.old) (O.written out.new) ((input.new ≡ input.old) × (out.new ≡ out.old)) result }
+    ensures runs { Runs words.now (I.left input.old) (I.left input.new) (O.written out.old) (O.written out.new) ((input.new ≡ input.old) × (out.new ≡ out.old)) result }
     ensures read_cause { HasCauseAt (I.faults input.old) (I.faults input.new) (IsErrOf result Refusal.ReadFault) }
     ensures write_cause { HasCauseAt (O.faults out.old) (O.faults out.new) (IsErrOf result Refusal.WriteFault) }
 {
@@ -55,9 +55,9 @@ pub fn vstore<I: Source, O: Sink, E: Sink>(
     out: &mut O,
     err: &mut E,
 ) -> u8
-    ensures answer { IsAnswer words.now (I.left input.old) (O.written out.old) (O.written out.new) ((input.new ≡ input.old) × (out.new ≡ out.old)) (I.faults input.old) (I.faults input.new) (O.faults out.old) (O.faults out.new) (E.written err.old) (E.written err.new) (E.faults err.old) (E.faults err.new) result }
+    ensures answer { IsAnswer words.now (I.left input.old) (I.left input.new) (O.written out.old) (O.written out.new) ((input.new ≡ input.old) × (out.new ≡ out.old)) (I.faults input.old) (I.faults input.new) (O.faults out.old) (O.faults out.new) (E.written err.old) (E.written err.new) (E.faults err.old) (E.faults err.new) result }
     ensures complete { Completes words.now (I.left input.old) (I.faults input.old) (I.faults input.new) (O.faults out.old) (O.faults out.new) result }
-    ensures zero { result ≡ 0 → RunsScan words.now (I.left input.old) (O.written out.old) (O.written out.new) (Ok tt) }
+    ensures zero { result ≡ 0 → RunsScan words.now (I.left input.old) (I.left input.new) (O.written out.old) (O.written out.new) (Ok tt) }
 {
     match run(alloc, words, input, out) {
         Ok(()) => 0,

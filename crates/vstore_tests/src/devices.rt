@@ -7,6 +7,16 @@ const INPUT: &[u8] = b"{\"a\":1}\n\n{\"a\":22}\n{\"b\":3}\n{\"a\":[4]}";
 
 const OUT: &[u8] = b"{\"$.a\":1}\n{\"$.a\":22}\n{}\n{\"$.a\":[4]}\n";
 
+// How many lines some bytes end.
+fn lf_count(bytes: &[u8]) -> usize {
+    bytes.iter().filter(|byte| **byte == b'\n').count()
+}
+
+// The second line of the input is blank.
+fn without_blank(lines: usize) -> usize {
+    if lines < 2 { lines } else { lines - 1 }
+}
+
 // The k-th read fails, in turn, until the input ends before it: the answered lines are whole ones.
 #[test]
 fn each_failed_read_is_answered_with_the_lines_before_it(rt: HostRuntime) -> Result<(), Fail> {
@@ -32,8 +42,12 @@ fn each_failed_read_is_answered_with_the_lines_before_it(rt: HostRuntime) -> Res
                     OUT.starts_with(out.bytes()),
                     "read {k} in pieces of {piece}"
                 );
+                // The lines whose LF was read, less the blank one; or all, once the end was seen.
+                let taken = INPUT.len().min((k as usize).saturating_mul(piece));
+                let lines = lf_count(&INPUT[..taken]);
+                let answered = lf_count(out.bytes());
                 assert!(&rt;
-                    out.bytes().is_empty() || out.bytes().ends_with(b"\n"),
+                    answered == without_blank(lines) || (taken == INPUT.len() && answered == 4),
                     "read {k} in pieces of {piece}"
                 );
             }

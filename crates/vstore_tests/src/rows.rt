@@ -85,7 +85,7 @@ fn scan_prints_the_match_of_each_document(rt: HostRuntime) -> Result<(), Fail> {
 // A row: a first line that spells nothing that is read.
 #[test]
 fn a_line_that_is_not_plain_is_refused_at_its_number(rt: HostRuntime) -> Result<(), Fail> {
-    let rows: [&[u8]; 46] = [
+    let rows: [&[u8]; 54] = [
         b"9223372036854775808",
         b"-9223372036854775809",
         b"1.5",
@@ -129,6 +129,14 @@ fn a_line_that_is_not_plain_is_refused_at_its_number(rt: HostRuntime) -> Result<
         b"nul",
         b"nulll",
         b"True",
+        b"99999999999999999999999999999999999999",
+        b"-99999999999999999999999999999999999999",
+        b"999999999999999999999999999999999999999",
+        b"1e38",
+        b"1e-39",
+        b"100000000000000000000000000000000000000000000000000e-45",
+        b"{\"a\":1e99,\"a\":\"\\ud800\"}",
+        b"[[[[[[[[[[[[[[[[[[[[[[[[[[[[[[[[[[[[[[[[[[[[[[[[[[[[[[[[[[[[[[[[[",
         b"\xef\xbb\xbf1",
         b"\xff",
         b"\"\xc3\"",

@@ -1,6 +1,6 @@
 use Rattle.std.proofs.Common.{◌≡◌, ◌∙◌, subst, ℕ, List, Ok, Err}
 use Rattle.variant_store.specs.Gathered.{GathersLine}
-use Rattle.variant_store.proofs.Turning.{turn_ended, turn_long, turn_over, turn_more, turn_refused}
+use Rattle.variant_store.proofs.Turning.{turn_ended, turn_long, turn_over, turn_more, turn_refused, turn_unread}
 use Rattle.variant_store.proofs.scan.take_turn.Goals as goal
 
 pub returns-in-Ok-TooLong-clause-turns : goal.returns-in-Ok-TooLong-clause-turns
@@ -23,3 +23,6 @@ returns-in-Ok-Line-clause-turns g c =
     let line = c.in-Ok-Line in
     let gathers = subst (λ (bytes : List ℕ). GathersLine c.args.path.now.steps.items line.number bytes c.args.pending.now.items c.gather.new.pending.items (Err c.in-Err.refusal)) c.as_slice.ensures c.in-Err.ensures in
     turn_refused _ _ _ _ _ _ _ line.number line.bytes _ (rw line.field-0-is at (line.ensures.comes c.requires)) gathers
+
+pub returns-in-Err-ReadFault-clause-turns : goal.returns-in-Err-ReadFault-clause-turns
+returns-in-Err-ReadFault-clause-turns g c = turn_unread _ _ _ _ _ _ (rw c.in-Err-ReadFault.field-0-is at (c.in-Err-ReadFault.ensures.comes c.requires))
