@@ -4,7 +4,7 @@
 usage: generate.py SHAPE BYTES > FILE
 
 SHAPE  numbers   objects of a few whole numbers, the path $.a in most of them
-       records   small records: a number, a time, a nested user, a list of texts
+       records   small records: a number, a time, a nested user, a decimal, a list of texts
        long      one line, an array of such objects
        wide      one object with so many bytes of members
 """
@@ -23,7 +23,7 @@ def records(draw, i=[0]):
     n = i[0]
     return (f'{{"id":{1000 + n},"ts":"2024-05-01T10:{n % 60:02}:00Z",'
             f'"user":{{"name":"u{n % 3}","age":{20 + n % 50}}},'
-            f'"amount":{draw.randrange(0, 99999)},"tags":["a","b"]}}')
+            f'"amount":{draw.randrange(0, 99999)}.25,"tags":["a","b"]}}')
 
 
 def main():

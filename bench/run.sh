@@ -46,6 +46,16 @@ P
     done
 done
 
+if command -v jq > /dev/null; then
+    echo
+    echo "| line | vstore | jq |"
+    echo "|---|---|---|"
+    for number in 9007199254740993 12345678901234567890.12 0.1000000000000000055 1e-30; do
+        echo "{\"a\":$number}" > "$work/in"
+        echo "| \`{\"a\":$number}\` | \`$("$program" scan '$.a' < "$work/in")\` | \`$(jq -c '.a' < "$work/in")\` |"
+    done
+fi
+
 if command -v valgrind > /dev/null; then
     echo
     echo "| input | bytes | instructions per byte |"

@@ -1,5 +1,5 @@
--- The value of a plain derivation has its names in order.
-use Rattle.std.proofs.Common.{◌≡◌, ◌∙◌, refl, sym, ap, ℕ, Bool, true, false, cond, ◌||◌, List, [], ◌∷◌, map, Ordering, Less, Equal, Greater}
+-- The value of a derivation has its names in order.
+use Rattle.std.proofs.Common.{◌≡◌, ◌∙◌, refl, sym, ap, ℕ, Bool, true, false, cond, ◌||◌, List, [], ◌∷◌, map, Option, Some, None, Ordering, Less, Equal, Greater}
 use Rattle.std.specs.Prelude.{bytes_eq}
 use Rattle.std.specs.Cmp.{IsTotalOrder}
 use Rattle.std.specs.Cmp.Lexicographic.{slice_cmp, texts_ties}
@@ -8,12 +8,12 @@ use Rattle.std.specs.List.Sorted.{IsStrictlySortedBy}
 use Rattle.std.specs.Ordering.{nat_cmp, is_lt, is_eq, ordering_reverse}
 use Rattle.std.proofs.lemmas.Cmp.{nat_list_cmp_total}
 use Rattle.vs_bytes.specs.Names.{repeats}
-use Rattle.json_tree.specs.Json.{Json, fields_of, names_of}
+use Rattle.json_tree.specs.Json.{Json, null, object, fields_of, names_of}
 use Rattle.json_tree.specs.Order.{NamesRise, IsOrdered, AreOrdered, HoldOrdered, inserted, sorted}
-use Rattle.json_grammar.specs.Grammar.{Written, null, boolean, number, text, array, object, Elements, no_elements, first_element, MoreElements, end_elements, next_element, Entry, entry, Entries, no_entries, first_entry, MoreEntries, end_entries, next_entry}
-use Rattle.json_grammar.specs.Plain.{IsPlain, ArePlainElements, ArePlainMore, IsPlainEntry, ArePlainEntries, ArePlainMoreEntries}
-use Rattle.exact_json.specs.Meaning.{tree_of, parts_in, more_parts_in, pair_in, pairs_in, more_pairs_in}
-use Rattle.exact_json.proofs.Turns.{names_are}
+use Rattle.json_grammar.specs.Grammar as written
+use Rattle.json_grammar.specs.Grammar.{Written, Elements, no_elements, first_element, MoreElements, end_elements, next_element, Entry, entry, Entries, no_entries, first_entry, MoreEntries, end_entries, next_entry}
+use Rattle.exact_num.specs.Decimal.{Decimal}
+use Rattle.exact_json.specs.Meaning.{tree_of, number_of, number_or_null, object_or_null, parts_in, more_parts_in, pair_in, pairs_in, more_pairs_in}
 
 abbrev order : List ℕ → List ℕ → Ordering
 order = slice_cmp nat_cmp
@@ -93,30 +93,41 @@ sorted_rise (m ∷ ms) e = by (list_any (λ other. bytes_eq other m.0) (map (λ 
     by true f e rest = cc
     by false f e rest = inserted_rise m (sorted ms) (sorted_all (λ y. order m.0 y ≡ Equal → ⊥) ms (apart m.0 (names ms) (ap (list_any (λ other. bytes_eq other m.0)) (sym (same ms)) ∙ f))) (rest e)
 
+ordered_number : (o : Option Decimal) → IsOrdered (number_or_null o)
+ordered_number None = tt
+ordered_number (Some d) = tt
+
+ordered_object : (ms : List (List ℕ × Json)) → HoldOrdered (fields_of ms) → IsOrdered (object_or_null ms)
+ordered_object ms h = by (repeats (map (λ m. m.0) ms)) refl
+  where
+    by : (b : Bool) → repeats (map (λ m. m.0) ms) ≡ b → IsOrdered (cond b null (object (fields_of (sorted ms))))
+    by true e = tt
+    by false e = (sorted_rise ms e, sorted_hold ms h)
+
 mutual
-  pub ordered : (w : Written) → IsPlain w → IsOrdered (tree_of w)
-  ordered null h = tt
-  ordered (boolean b) h = tt
-  ordered (number s) h = tt
-  ordered (text ps) h = tt
-  ordered (array gap es) h = ordered_elements es h
-  ordered (object gap es) h = (sorted_rise (pairs_in es) (ap repeats (sym (names_are es)) ∙ h.1), sorted_hold (pairs_in es) (ordered_entries es h.0))
+  pub ordered : (w : Written) → IsOrdered (tree_of w)
+  ordered written.null = tt
+  ordered (written.boolean b) = tt
+  ordered (written.number s) = ordered_number (number_of s)
+  ordered (written.text ps) = tt
+  ordered (written.array gap es) = ordered_elements es
+  ordered (written.object gap es) = ordered_object (pairs_in es) (ordered_entries es)
 
-  ordered_elements : (es : Elements) → ArePlainElements es → AreOrdered (parts_in es)
-  ordered_elements no_elements h = tt
-  ordered_elements (first_element w gap es) h = (ordered w h.0, ordered_more es h.1)
+  ordered_elements : (es : Elements) → AreOrdered (parts_in es)
+  ordered_elements no_elements = tt
+  ordered_elements (first_element w gap es) = (ordered w, ordered_more es)
 
-  ordered_more : (es : MoreElements) → ArePlainMore es → AreOrdered (more_parts_in es)
-  ordered_more end_elements h = tt
-  ordered_more (next_element before w gap es) h = (ordered w h.0, ordered_more es h.1)
+  ordered_more : (es : MoreElements) → AreOrdered (more_parts_in es)
+  ordered_more end_elements = tt
+  ordered_more (next_element before w gap es) = (ordered w, ordered_more es)
 
-  ordered_entry : (e : Entry) → IsPlainEntry e → IsOrdered (pair_in e).1
-  ordered_entry (entry name before gap w) h = ordered w h.1
+  ordered_entry : (e : Entry) → IsOrdered (pair_in e).1
+  ordered_entry (entry name before gap w) = ordered w
 
-  ordered_entries : (es : Entries) → ArePlainEntries es → HoldOrdered (fields_of (pairs_in es))
-  ordered_entries no_entries h = tt
-  ordered_entries (first_entry e gap es) h = (ordered_entry e h.0, ordered_more_entries es h.1)
+  ordered_entries : (es : Entries) → HoldOrdered (fields_of (pairs_in es))
+  ordered_entries no_entries = tt
+  ordered_entries (first_entry e gap es) = (ordered_entry e, ordered_more_entries es)
 
-  ordered_more_entries : (es : MoreEntries) → ArePlainMoreEntries es → HoldOrdered (fields_of (more_pairs_in es))
-  ordered_more_entries end_entries h = tt
-  ordered_more_entries (next_entry before e gap es) h = (ordered_entry e h.0, ordered_more_entries es h.1)
+  ordered_more_entries : (es : MoreEntries) → HoldOrdered (fields_of (more_pairs_in es))
+  ordered_more_entries end_entries = tt
+  ordered_more_entries (next_entry before e gap es) = (ordered_entry e, ordered_more_entries es)

@@ -1,5 +1,9 @@
+pub mod Brackets
+pub mod Counting
+pub mod Document
 pub mod Documents
 pub mod Faults
+pub mod Judging
 pub mod Meaning
-pub mod Numbers
 pub mod Parsing
+pub mod Shown

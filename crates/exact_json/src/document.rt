@@ -1,43 +1,81 @@
 //! Whole lines, each one JSON text (RFC 8259, section 2).
 
-ghost use Rattle.std.specs.Prelude.{IfOk};
-ghost use Rattle.std.specs.Option.{option_map};
+ghost use Rattle.std.specs.Prelude.{◌≡◌, IfOk, cond};
 ghost use Rattle.json_tree.specs.Order.{IsOrdered};
 ghost use Rattle.json_tree.specs.View.{view};
 ghost use Rattle.json_grammar.specs.Reading.{document_at};
-ghost use Rattle.exact_json.specs.Meaning.{Answers, tree_of};
-ghost use Rattle.exact_json.specs.Parsing.{Reads};
+ghost use Rattle.exact_json.specs.Brackets.{is_too_deep};
+ghost use Rattle.exact_json.specs.Judging.{Gives, judged_text, fault_or, fault_of};
+ghost use Rattle.exact_json.specs.declared.fault.DocFault.TheVariants.{TooDeep, NotJson};
+ghost use Rattle.exact_json.specs.Meaning.{Answers};
+ghost use Rattle.exact_json.specs.Parsing.{Reads, told_text};
+ghost use Rattle.exact_json.specs.Shown.{shown};
 
-use crate::fault::DocFault;
+use crate::brackets::is_too_deep;
+use crate::fault::{DocFault, ReadFault};
 use crate::scan::past_gap;
+use crate::seen::Seen;
 use crate::values::read_value;
 use json_lines::LINE_LIMIT;
 use json_tree::Tree;
 use std::alloc::Global;
 
 // The greatest number of arrays and objects that are open at once.
-const DEPTH_LIMIT: u32 = 64;
+pub(crate) const DEPTH_LIMIT: u32 = 64;
 
-/// Reads the value of a line.
+/// Reads the value of a line, or tells the first of its faults.
 ///
-/// A line has at most 1,048,576 bytes, and at most 64 arrays and objects open at once. The members of
-/// an object stand in the order of their names.
+/// The members of an object stand in the order of their names.
 pub fn read_line(alloc: Global, line: &[u8]) -> Result<Tree, DocFault>
     ensures exact { Answers view line.now result }
     ensures ordered { IfOk result (λ tree. IsOrdered (view tree)) }
 {
     if line.len() > LINE_LIMIT {
-        return Err(DocFault::NotPlain);
+        return Err(DocFault::LineTooLong);
     }
-    read_document(alloc, line)
+    match std::str::from_utf8(line) {
+        Ok(_) => read_text(alloc, line),
+        Err(_) => Err(DocFault::NotUtf8),
+    }
 }
 
-fn read_document(alloc: Global, line: &[u8]) -> Result<Tree, DocFault>
-    ensures told { Reads view result (option_map tree_of (document_at line.now)) }
+// Of a line that is UTF-8 and not too long.
+fn read_text(alloc: Global, line: &[u8]) -> Result<Tree, DocFault>
+    ensures { Gives view result (judged_text line.now) }
 {
-    let (tree, behind) = read_value(alloc, past_gap(line), DEPTH_LIMIT)?;
+    let mut noted = Seen::new();
+    match read_document(alloc, line, &mut noted) {
+        Ok(tree) => unless_flawed(tree, &noted),
+        Err(ReadFault::NotJson) => Err(why_not_read(line)),
+        Err(ReadFault::NoMemory) => Err(DocFault::NoMemory),
+    }
+}
+
+fn unless_flawed(tree: Tree, noted: &Seen) -> Result<Tree, DocFault>
+    ensures { Gives view result (fault_or (view tree) (fault_of (shown noted.now))) }
+{
+    match noted.fault() {
+        Some(fault) => Err(fault),
+        None => Ok(tree),
+    }
+}
+
+// The parser opens no more brackets than a line may, and doesn't tell this from what is no JSON.
+fn why_not_read(line: &[u8]) -> DocFault
+    ensures { result ≡ cond (is_too_deep line.now) TooDeep NotJson }
+{
+    if is_too_deep(line) {
+        return DocFault::TooDeep;
+    }
+    DocFault::NotJson
+}
+
+fn read_document(alloc: Global, line: &[u8], noted: &mut Seen) -> Result<Tree, ReadFault>
+    ensures told { Reads (λ tree. (view tree, shown noted.new)) result (told_text (shown noted.old) (document_at line.now)) }
+{
+    let (tree, behind) = read_value(alloc, past_gap(line), DEPTH_LIMIT, noted)?;
     if !past_gap(behind).is_empty() {
-        return Err(DocFault::NotPlain);
+        return Err(ReadFault::NotJson);
     }
     Ok(tree)
 }

@@ -1,17 +1,29 @@
-//! What a line that isn't admitted breaks.
+//! The faults of lines.
 
 ghost use Rattle.std.specs.Prelude.{◌≡◌};
-ghost use Rattle.exact_json.specs.declared.fault.DocFault.TheVariants.{NoMemory};
+ghost use Rattle.exact_json.specs.declared.fault.ReadFault.TheVariants.{NoMemory as OutOfMemory};
 ghost use Rattle.exact_json.specs.Faults.{name_of};
 
 use std::alloc::{AllocError, AllocFailed};
 
-/// Why a line has no tree.
+/// Why a line has no tree: the first of its faults, in this order, each a property of the whole line.
 #[derive(Clone, Copy, PartialEq, Eq, Debug, Drop)]
 pub enum DocFault {
-    /// The line spells no value that is read for now.
-    NotPlain,
-    /// There was no memory for its tree.
+    /// It has more than 1,048,576 bytes.
+    LineTooLong,
+    /// Its bytes aren't UTF-8.
+    NotUtf8,
+    /// It opens more than 64 brackets at once, quoted ones aside.
+    TooDeep,
+    /// It is no JSON text (RFC 8259, section 2).
+    NotJson,
+    /// A `\u` escape names a surrogate that has no partner.
+    LoneSurrogate,
+    /// An object has a name twice, after escapes.
+    DuplicateKey,
+    /// A number needs more than 38 digits, or more than 38 places behind the point.
+    NumberTooWide,
+    /// There was no memory for its tree, which says nothing of the line.
     NoMemory,
 }
 
@@ -21,32 +33,39 @@ impl DocFault {
         ensures { result.now ≡ name_of self.now }
     {
         match self {
-            DocFault::NotPlain => "NotPlain",
+            DocFault::LineTooLong => "LineTooLong",
+            DocFault::NotUtf8 => "NotUtf8",
+            DocFault::TooDeep => "TooDeep",
+            DocFault::NotJson => "NotJson",
+            DocFault::LoneSurrogate => "LoneSurrogate",
+            DocFault::DuplicateKey => "DuplicateKey",
+            DocFault::NumberTooWide => "NumberTooWide",
             DocFault::NoMemory => "NoMemory",
         }
     }
 }
 
-impl From<AllocError> for DocFault {
-    ghost from_gives = { λ _ fault. fault ≡ NoMemory };
+/// Why the parser read nothing.
+#[derive(Clone, Copy, PartialEq, Eq, Debug, Drop)]
+pub(crate) enum ReadFault {
+    /// No such part of a text, of at most so many open arrays and objects, stands there.
+    NotJson,
+    /// There was no memory for its tree.
+    NoMemory,
+}
 
-    fn from(_error: AllocError) -> DocFault {
-        DocFault::NoMemory
+impl From<AllocError> for ReadFault {
+    ghost from_gives = { λ _ fault. fault ≡ OutOfMemory };
+
+    fn from(_error: AllocError) -> ReadFault {
+        ReadFault::NoMemory
     }
 }
 
-impl<T: Drop> From<AllocFailed<T>> for DocFault {
-    ghost from_gives = { λ _ fault. fault ≡ NoMemory };
+impl<T: Drop> From<AllocFailed<T>> for ReadFault {
+    ghost from_gives = { λ _ fault. fault ≡ OutOfMemory };
 
-    fn from(_error: AllocFailed<T>) -> DocFault {
-        DocFault::NoMemory
-    }
-}
-
-impl From<vs_bytes::NoMemory> for DocFault {
-    ghost from_gives = { λ _ fault. fault ≡ NoMemory };
-
-    fn from(_error: vs_bytes::NoMemory) -> DocFault {
-        DocFault::NoMemory
+    fn from(_error: AllocFailed<T>) -> ReadFault {
+        ReadFault::NoMemory
     }
 }

@@ -1,14 +1,54 @@
-//! The laws of documents: a line spells one value at most, and an input has one list of documents
-//! and one ending. Each law is a contract of an empty function.
+//! The laws of lines and documents: a line has one value or one first fault, and never both, the
+//! canonical text of a document is a line of it and of nothing else, and an input has one list of
+//! documents and one ending. Each law is a contract of an empty function.
 
-ghost use Rattle.std.specs.Prelude.{◌≡◌, List, ℕ};
+ghost use Rattle.std.specs.Prelude.{◌≡◌, ◌⊎◌, List, ℕ};
 ghost use Rattle.json_tree.specs.Json.{Json};
-ghost use Rattle.exact_json.specs.Meaning.{Spells};
+ghost use Rattle.json_tree.specs.Text.{text_of};
+ghost use Rattle.exact_json.specs.Document.{IsLineValue, IsDocument};
+ghost use Rattle.exact_json.specs.Meaning.{Spells, IsFirstFault};
 ghost use Rattle.exact_json.specs.Documents.{Ending, HasDocuments};
+ghost use Rattle.exact_json.specs.declared.fault.DocFault.{DocFault};
+
+/// Each line spells a value or has a first fault.
+pub fn line_is_judged()
+    ensures { (line : List ℕ) → ((json : Json) × Spells line json) ⊎ ((fault : DocFault) × IsFirstFault line fault) }
+{}
+
+/// No line has both.
+pub fn value_has_no_fault()
+    ensures { (line : List ℕ) (json : Json) (fault : DocFault) → Spells line json → IsFirstFault line fault → ⊥ }
+{}
 
 /// A line spells one value at most.
 pub fn value_is_one()
     ensures { (line : List ℕ) (a b : Json) → Spells line a → Spells line b → a ≡ b }
+{}
+
+/// A line has one first fault at most.
+pub fn fault_is_one()
+    ensures { (line : List ℕ) (a b : DocFault) → IsFirstFault line a → IsFirstFault line b → a ≡ b }
+{}
+
+/// The canonical text of a document spells it.
+pub fn text_is_read_back()
+    ensures { (json : Json) → IsDocument json → Spells (text_of json) json }
+{}
+
+/// The canonical text of a document spells no other value.
+pub fn text_is_of_one()
+    ensures { (json other : Json) → IsDocument json → Spells (text_of json) other → other ≡ json }
+{}
+
+/// Only a document is spelled by its canonical text.
+pub fn read_back_is_document()
+    ensures { (json : Json) → Spells (text_of json) json → IsDocument json }
+{}
+
+/// What any line spells is a document, apart from the length of its canonical text: a line may be
+/// shorter, as `1e37` is.
+pub fn value_is_line_value()
+    ensures { (line : List ℕ) (json : Json) → Spells line json → IsLineValue json }
 {}
 
 /// Each input has documents and an ending.

@@ -1,27 +1,31 @@
 //! JSON lines read exactly (RFC 8259): a line's tree, or the fault that it has.
 //!
-//! A line is read in one pass, call by call as the functions on lists of `json_grammar` read it. For
-//! now a string has no backslash, a number is a whole one within 64 bits, and a name stands once in
-//! its object.
+//! A line is read in one pass, call by call as the functions on lists of `json_grammar` read it. What
+//! makes JSON no document (a lone surrogate, a name twice, a number too wide) is noted on the way. The
+//! brackets are counted only where nothing was read.
 //!
 //! | Module | What it holds |
 //! |---|---|
-//! | `fault` | `DocFault`: what a line that isn't admitted breaks |
-//! | `document` | `read_line`: the tree of a line |
+//! | `fault` | `DocFault`: the faults of lines |
+//! | `document` | `read_line`: the tree of a line, or its first fault |
+//! | `brackets` | whether too many brackets are open at once |
 //! | `values` | values, arrays and objects |
 //! | `numbers` | numbers |
 //! | `strings` | strings |
+//! | `seen` | the flaws that were noted |
 //! | `scan` | white space, single bytes, words |
-//! | `laws` | a line spells one value at most, an input has one list of documents |
+//! | `laws` | what a line is, once and always; canonical texts; the documents of an input |
 //!
 //! The lines of an input come from `json_lines`, whose names are passed on.
 #![tactic(auto)]
 
+mod brackets;
 mod document;
 mod fault;
 pub mod laws;
 mod numbers;
 mod scan;
+mod seen;
 mod strings;
 mod values;
 

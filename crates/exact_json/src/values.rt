@@ -3,72 +3,93 @@
 //! Each function follows one function on lists of `json_grammar`, by the same calls: it gives the tree
 //! of what that reads, and the bytes behind it.
 
-ghost use Rattle.std.specs.Prelude.{◌≡◌, map};
+ghost use Rattle.std.specs.Prelude.{◌≡◌, ◌==◌, cond, map};
 ghost use Rattle.json_tree.specs.Json.{array, parts_of};
 ghost use Rattle.json_tree.specs.View.{view, seen};
-ghost use Rattle.json_grammar.specs.Reading.{value_at, nested, text_at, array_at, object_at, elements_at, entry_at, all_entries_at};
-ghost use Rattle.exact_json.specs.Parsing.{Finds, Reads, told, told_elements, told_entry, told_entries, object_of};
+ghost use Rattle.json_grammar.specs.Reading.{value_at, nested, text_at, array_at, object_at, elements_at, entry_at, entries_at};
+ghost use Rattle.vs_bytes.specs.Names.{repeats};
+ghost use Rattle.exact_json.specs.Meaning.{object_or_null};
+ghost use Rattle.exact_json.specs.Parsing.{Reads, told, told_elements, told_entry, told_entries};
+ghost use Rattle.exact_json.specs.Shown.{shown};
 
-use crate::fault::DocFault;
+use crate::document::DEPTH_LIMIT;
+use crate::fault::ReadFault;
 use crate::numbers::read_number;
 use crate::scan::{after_byte, after_word, past_gap};
+use crate::seen::Seen;
 use crate::strings::read_string;
 use json_tree::{Items, Members, Tree};
 use std::alloc::Global;
 use vs_bytes::Text;
 
+// For how many members a record has room at first, and any array or object inside it: most have no
+// more, and the memory of a line of many small arrays stays within bounds.
+const RECORD_ROOM: usize = 8;
+
+const INNER_ROOM: usize = 2;
+
 /// Reads a value from the front of `text`, and gives the bytes behind it. At most `depth` arrays and
-/// objects may be open at once.
+/// objects may be open at once. The value's flaws are noted, and null stands in for what has no value.
 #[cycle(parser)]
-pub fn read_value<'a>(
+pub(crate) fn read_value<'a>(
     alloc: Global,
     text: &'a [u8],
     depth: u32,
-) -> Result<(Tree, &'a [u8]), DocFault>
-    ensures told { Reads (λ x. (view x.0, x.1.now)) result (told (value_at depth text.now)) }
+    noted: &mut Seen,
+) -> Result<(Tree, &'a [u8]), ReadFault>
+    ensures told { Reads (λ x. (view x.0, shown noted.new, x.1.now)) result (told (shown noted.old) (value_at depth text.now)) }
 {
     match text {
-        [] => Err(DocFault::NotPlain),
-        [b'"', rest @ ..] => read_text(alloc, rest),
-        [b'[', rest @ ..] => read_array(alloc, rest, depth),
-        [b'{', rest @ ..] => read_object(alloc, rest, depth),
+        [] => Err(ReadFault::NotJson),
+        [b'"', rest @ ..] => read_text(alloc, rest, noted),
+        [b'[', rest @ ..] => read_array(alloc, rest, depth, noted),
+        [b'{', rest @ ..] => read_object(alloc, rest, depth, noted),
         [b'n', ..] => match after_word(text, b"null") {
             Some(rest) => Ok((Tree::Null, rest)),
-            None => Err(DocFault::NotPlain),
+            None => Err(ReadFault::NotJson),
         },
         [b't', ..] => match after_word(text, b"true") {
             Some(rest) => Ok((Tree::Bool(true), rest)),
-            None => Err(DocFault::NotPlain),
+            None => Err(ReadFault::NotJson),
         },
         [b'f', ..] => match after_word(text, b"false") {
             Some(rest) => Ok((Tree::Bool(false), rest)),
-            None => Err(DocFault::NotPlain),
+            None => Err(ReadFault::NotJson),
         },
-        _ => match read_number(text) {
-            Some((number, rest)) => Ok((Tree::Num(number), rest)),
-            None => Err(DocFault::NotPlain),
+        _ => match read_number(text, noted) {
+            Some((tree, rest)) => Ok((tree, rest)),
+            None => Err(ReadFault::NotJson),
         },
     }
 }
 
 // The rest of a string, array or object from its opening byte on.
 
-fn read_text<'a>(alloc: Global, text: &'a [u8]) -> Result<(Tree, &'a [u8]), DocFault>
-    ensures told { Reads (λ x. (view x.0, x.1.now)) result (told (text_at text.now)) }
+fn read_text<'a>(
+    alloc: Global,
+    text: &'a [u8],
+    noted: &mut Seen,
+) -> Result<(Tree, &'a [u8]), ReadFault>
+    ensures told { Reads (λ x. (view x.0, shown noted.new, x.1.now)) result (told (shown noted.old) (text_at text.now)) }
 {
-    let (text, rest) = read_string(alloc, text)?;
+    let (text, rest) = read_string(alloc, text, noted)?;
     Ok((Tree::Text(text), rest))
 }
 
 #[cycle(parser)]
 #[tactic(auto, unfolding(json_grammar::specs::Reading::nested))]
-fn read_array<'a>(alloc: Global, text: &'a [u8], depth: u32) -> Result<(Tree, &'a [u8]), DocFault>
-    ensures told { Reads (λ x. (view x.0, x.1.now)) result (told (array_at (nested depth).0 text.now)) }
+fn read_array<'a>(
+    alloc: Global,
+    text: &'a [u8],
+    depth: u32,
+    noted: &mut Seen,
+) -> Result<(Tree, &'a [u8]), ReadFault>
+    ensures told { Reads (λ x. (view x.0, shown noted.new, x.1.now)) result (told (shown noted.old) (array_at (nested depth).0 text.now)) }
 {
     if depth == 0 {
-        return Err(DocFault::NotPlain);
+        return Err(ReadFault::NotJson);
     }
-    let (trees, rest) = read_elements(alloc, past_gap(text), depth - 1)?;
+    let (trees, rest) = read_elements(alloc, past_gap(text), depth - 1, noted)?;
     Ok((array_tree(trees), rest))
 }
 
@@ -83,14 +104,15 @@ fn read_elements<'a>(
     alloc: Global,
     text: &'a [u8],
     depth: u32,
-) -> Result<(Vec<Tree>, &'a [u8]), DocFault>
-    ensures told { Reads (λ x. (map view x.0.items, x.1.now)) result (told_elements (elements_at (value_at depth) text.now)) }
+    noted: &mut Seen,
+) -> Result<(Vec<Tree>, &'a [u8]), ReadFault>
+    ensures told { Reads (λ x. (map view x.0.items, shown noted.new, x.1.now)) result (told_elements (shown noted.old) (elements_at (value_at depth) text.now)) }
 {
-    let mut trees = Vec::new(alloc);
     if let Some(rest) = after_byte(text, b']') {
-        return Ok((trees, rest));
+        return Ok((Vec::new(alloc), rest));
     }
-    let (tree, behind) = read_value(alloc, text, depth)?;
+    let mut trees = Vec::with_capacity(alloc, INNER_ROOM)?;
+    let (tree, behind) = read_value(alloc, text, depth, noted)?;
     trees.push(tree)?;
     let mut rest = past_gap(behind);
     // Each turn takes a byte, so there are at most so many.
@@ -99,34 +121,53 @@ fn read_elements<'a>(
             return Ok((trees, behind));
         }
         let Some(next) = after_byte(rest, b',') else {
-            return Err(DocFault::NotPlain);
+            return Err(ReadFault::NotJson);
         };
-        let (tree, behind) = read_value(alloc, past_gap(next), depth)?;
+        let (tree, behind) = read_value(alloc, past_gap(next), depth, noted)?;
         trees.push(tree)?;
         rest = past_gap(behind);
     }
-    Err(DocFault::NotPlain)
+    Err(ReadFault::NotJson)
 }
 
 #[cycle(parser)]
 #[tactic(auto, unfolding(json_grammar::specs::Reading::nested))]
-fn read_object<'a>(alloc: Global, text: &'a [u8], depth: u32) -> Result<(Tree, &'a [u8]), DocFault>
-    ensures told { Reads (λ x. (view x.0, x.1.now)) result (told (object_at (nested depth).1 text.now)) }
+fn read_object<'a>(
+    alloc: Global,
+    text: &'a [u8],
+    depth: u32,
+    noted: &mut Seen,
+) -> Result<(Tree, &'a [u8]), ReadFault>
+    ensures told { Reads (λ x. (view x.0, shown noted.new, x.1.now)) result (told (shown noted.old) (object_at (nested depth).1 text.now)) }
 {
     if depth == 0 {
-        return Err(DocFault::NotPlain);
+        return Err(ReadFault::NotJson);
     }
-    let (pairs, rest) = read_entries(alloc, past_gap(text), depth - 1)?;
-    let tree = object_tree(pairs)?;
+    let (pairs, rest) = read_entries(alloc, past_gap(text), depth - 1, noted)?;
+    let (tree, repeated) = object_tree(pairs);
+    noted.note_repeated(repeated);
     Ok((tree, rest))
 }
 
-fn object_tree(pairs: Vec<(Text, Tree)>) -> Result<Tree, DocFault>
-    ensures { Reads view result (object_of (map seen pairs.items)) }
+// The object, and whether a name stands twice: then null stands in for it.
+fn object_tree(pairs: Vec<(Text, Tree)>) -> (Tree, bool)
+    ensures tree { view result.0 ≡ object_or_null (map seen pairs.items) }
+    ensures repeated { result.1 ≡ repeats (map (λ m. m.0) (map seen pairs.items)) }
 {
     match Members::from_pairs(pairs) {
-        Ok(members) => Ok(Tree::Object(members)),
-        Err(_) => Err(DocFault::NotPlain),
+        Ok(members) => (Tree::Object(members), false),
+        Err(_) => (Tree::Null, true),
+    }
+}
+
+// The object that is the line itself leaves one less than the limit to those inside it.
+fn first_room(depth: u32) -> usize
+    ensures { result ≡ cond (depth == 63) 8 2 }
+{
+    if depth == DEPTH_LIMIT - 1 {
+        RECORD_ROOM
+    } else {
+        INNER_ROOM
     }
 }
 
@@ -135,14 +176,15 @@ fn read_entries<'a>(
     alloc: Global,
     text: &'a [u8],
     depth: u32,
-) -> Result<(Vec<(Text, Tree)>, &'a [u8]), DocFault>
-    ensures told { Reads (λ x. (map seen x.0.items, x.1.now)) result (told_entries (all_entries_at (value_at depth) text.now)) }
+    noted: &mut Seen,
+) -> Result<(Vec<(Text, Tree)>, &'a [u8]), ReadFault>
+    ensures told { Reads (λ x. (map seen x.0.items, shown noted.new, x.1.now)) result (told_entries (shown noted.old) (entries_at (value_at depth) text.now)) }
 {
-    let mut pairs = Vec::new(alloc);
     if let Some(rest) = after_byte(text, b'}') {
-        return Ok((pairs, rest));
+        return Ok((Vec::new(alloc), rest));
     }
-    let (pair, behind) = read_entry(alloc, text, depth)?;
+    let mut pairs = Vec::with_capacity(alloc, first_room(depth))?;
+    let (pair, behind) = read_entry(alloc, text, depth, noted)?;
     pairs.push(pair)?;
     let mut rest = past_gap(behind);
     // Each turn takes a byte, so there are at most so many.
@@ -151,13 +193,13 @@ fn read_entries<'a>(
             return Ok((pairs, behind));
         }
         let Some(next) = after_byte(rest, b',') else {
-            return Err(DocFault::NotPlain);
+            return Err(ReadFault::NotJson);
         };
-        let (pair, behind) = read_entry(alloc, past_gap(next), depth)?;
+        let (pair, behind) = read_entry(alloc, past_gap(next), depth, noted)?;
         pairs.push(pair)?;
         rest = past_gap(behind);
     }
-    Err(DocFault::NotPlain)
+    Err(ReadFault::NotJson)
 }
 
 // A name, a colon and a value.
@@ -166,16 +208,17 @@ fn read_entry<'a>(
     alloc: Global,
     text: &'a [u8],
     depth: u32,
-) -> Result<((Text, Tree), &'a [u8]), DocFault>
-    ensures told { Reads (λ x. (seen x.0, x.1.now)) result (told_entry (entry_at (value_at depth) text.now)) }
+    noted: &mut Seen,
+) -> Result<((Text, Tree), &'a [u8]), ReadFault>
+    ensures told { Reads (λ x. (seen x.0, shown noted.new, x.1.now)) result (told_entry (shown noted.old) (entry_at (value_at depth) text.now)) }
 {
     let Some(inside) = after_byte(text, b'"') else {
-        return Err(DocFault::NotPlain);
+        return Err(ReadFault::NotJson);
     };
-    let (name, behind) = read_string(alloc, inside)?;
+    let (name, behind) = read_string(alloc, inside, noted)?;
     let Some(rest) = after_byte(past_gap(behind), b':') else {
-        return Err(DocFault::NotPlain);
+        return Err(ReadFault::NotJson);
     };
-    let (tree, rest) = read_value(alloc, past_gap(rest), depth)?;
+    let (tree, rest) = read_value(alloc, past_gap(rest), depth, noted)?;
     Ok(((name, tree), rest))
 }

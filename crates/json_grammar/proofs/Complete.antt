@@ -1,21 +1,18 @@
 -- What is spelled is read.
-use Rattle.std.proofs.Common.{◌≡◌, ◌⊎◌, inl, inr, refl, ℕ, suc, ◌==◌, ◌-◌, ◌≤◌, List, [], ◌∷◌, ◌++◌, true, false, Some, None, length, length-append, arith, le_refl, ne_eqb}
+use Rattle.std.proofs.Common.{◌≡◌, ◌∙◌, ◌⊎◌, inl, inr, refl, ℕ, suc, ◌==◌, ◌-◌, ◌≤◌, List, [], ◌∷◌, ◌++◌, true, false, Some, None, length, length-append, arith, le_refl, ne_eqb}
 use Rattle.std.proofs.lemmas.Bool.Decides.{nat_tests}
-use Rattle.json_grammar.specs.Grammar.{Piece, byte, short, unit, Written, null, boolean, number, text, array, object, Elements, no_elements, first_element, MoreElements, end_elements, next_element, Entry, entry, Entries, no_entries, first_entry, MoreEntries, end_entries, next_entry, IsGap, IsDigit, ArePieces, pieces_spelled, spelled, elements_spelled, more_elements_spelled, entry_spelled, entries_spelled, more_entries_spelled, IsWell, AreWellElements, AreWellMore, IsWellEntry, AreWellEntries, AreWellMoreEntries, nesting, elements_nesting, more_nesting, entry_nesting, entries_nesting, more_entries_nesting}
-use Rattle.json_grammar.specs.Plain.{IsPlain, IsPlainString, ArePlainElements, ArePlainMore, IsPlainEntry, ArePlainEntries, ArePlainMoreEntries, is_small}
-use Rattle.json_grammar.specs.Reading.{Parse, is_space, is_numeric, past, number_at, value_by, value_at, nested, elements_at, more_elements_at, all_entries_at, entries_at, entry_at, more_entries_at}
+use Rattle.exact_num.specs.Spelling.{IsDigit}
+use Rattle.json_strings.specs.Pieces.{Piece, pieces_spelled}
+use Rattle.json_strings.specs.Meaning.{IsString}
+use Rattle.json_strings.proofs.Strings.{string_complete}
+use Rattle.json_grammar.specs.Grammar.{Written, null, boolean, number, text, array, object, Elements, no_elements, first_element, MoreElements, end_elements, next_element, Entry, entry, Entries, no_entries, first_entry, MoreEntries, end_entries, next_entry, IsGap, IsNumber, spelled, elements_spelled, more_elements_spelled, entry_spelled, entries_spelled, more_entries_spelled, IsWell, AreWellElements, AreWellMore, IsWellEntry, AreWellEntries, AreWellMoreEntries, nesting, elements_nesting, more_nesting, entry_nesting, entries_nesting, more_entries_nesting}
+use Rattle.json_grammar.specs.Reading.{Parse, is_space, is_numeric, past, number_at, value_by, value_at, nested, elements_at, more_elements_at, entries_at, entry_at, more_entries_at}
 use Rattle.json_grammar.proofs.Gaps.{Stops, gap_is, past_gap_is, gap_quiet, front_run, back_run}
-use Rattle.json_grammar.proofs.Strings.{string_complete}
-use Rattle.json_grammar.proofs.Numbers.{small_is, small_starts}
+use Rattle.json_grammar.proofs.Strings.{pieces_longer}
+use Rattle.json_grammar.proofs.Numbers.{Starts, number_passes, number_starts, number_complete}
 use Rattle.json_grammar.proofs.Listed.{all_complete, more_complete}
 
 -- The bytes behind a value stay behind it.
-
-pieces_longer : (ps : List Piece) (after : List ℕ) → length after ≤ length (pieces_spelled ps after)
-pieces_longer [] after = omega arith
-pieces_longer (byte x ∷ ps) after = omega (arith, pieces_longer ps after)
-pieces_longer (short x ∷ ps) after = omega (arith, pieces_longer ps after)
-pieces_longer (unit a b c d ∷ ps) after = omega (arith, pieces_longer ps after)
 
 mutual
   longer : (w : Written) (after : List ℕ) → length after ≤ length (spelled w after)
@@ -57,18 +54,20 @@ number_begins : (x : ℕ) → (x ≡ 45) ⊎ IsDigit x → (is_space x ≡ false
 number_begins x (inl e) = rw e (refl, refl)
 number_begins x (inr h) = (grind (arith, nat_tests), grind (arith, nat_tests))
 
-pub begins : (w : Written) (after : List ℕ) → IsPlain w → Stops is_space (spelled w after) × (past 93 (spelled w after) ≡ None)
-unfolding is_small
+pub begins : (w : Written) (after : List ℕ) → IsWell w → Stops is_space (spelled w after) × (past 93 (spelled w after) ≡ None)
 begins null after h = (refl, refl)
 begins (boolean true) after h = (refl, refl)
 begins (boolean false) after h = (refl, refl)
-begins (number []) after h = absurd (cc)
-begins (number (x ∷ xs)) after h = let first = number_begins x (small_starts x xs h) in (first.0, rw first.1 refl)
+begins (number s) after h = number_first s (number_starts s h)
+  where
+    number_first : (s : List ℕ) → Starts s → Stops is_space (s ++ after) × (past 93 (s ++ after) ≡ None)
+    number_first [] k = absurd k
+    number_first (x ∷ xs) k = let first = number_begins x k in (first.0, rw first.1 refl)
 begins (text ps) after h = (refl, refl)
 begins (array gap es) after h = (refl, refl)
 begins (object gap es) after h = (refl, refl)
 
-elements_begin : (es : Elements) (after : List ℕ) → ArePlainElements es → Stops is_space (elements_spelled es after)
+elements_begin : (es : Elements) (after : List ℕ) → AreWellElements es → Stops is_space (elements_spelled es after)
 elements_begin no_elements after h = refl
 elements_begin (first_element w gap es) after h = (begins w (gap ++ more_elements_spelled es after) h.0).0
 
@@ -89,16 +88,18 @@ more_entries_begin (next_entry before e gap es) after = (refl, refl)
 
 -- One part of a value, from those within it.
 
-number_read : (E : Parse Elements) (M : Parse Entries) (s after : List ℕ) → is_small s ≡ true → Stops is_numeric after → value_by E M (s ++ after) ≡ Some (number s, after)
-unfolding is_small
-number_read E M [] after h stops = absurd (cc)
-number_read E M (x ∷ s) after h stops =
-    let run = (small_is (x ∷ s) h).1 in
-    rw (leads x (small_starts x s h), front_run is_numeric (x ∷ s) after run stops, back_run is_numeric (x ∷ s) after run stops, h) refl
+number_read : (E : Parse Elements) (M : Parse Entries) (s after : List ℕ) → IsNumber s → Stops is_numeric after → value_by E M (s ++ after) ≡ Some (number s, after)
+number_read E M s after h stops =
+    let run = number_passes s h in
+    leads s (number_starts s h) ∙ rw (front_run is_numeric s after run stops, back_run is_numeric s after run stops, number_complete s h) refl
   where
-    leads : (x : ℕ) → (x ≡ 45) ⊎ IsDigit x → value_by E M (x ∷ (s ++ after)) ≡ number_at (x ∷ (s ++ after))
-    leads x (inl e) = rw e refl
-    leads x (inr h) = rw (ne_eqb x 34 (omega arith), ne_eqb x 91 (omega arith), ne_eqb x 123 (omega arith), ne_eqb x 110 (omega arith), ne_eqb x 116 (omega arith), ne_eqb x 102 (omega arith)) refl
+    first : (x : ℕ) (xs : List ℕ) → (x ≡ 45) ⊎ IsDigit x → value_by E M (x ∷ xs) ≡ number_at (x ∷ xs)
+    first x xs (inl e) = rw e refl
+    first x xs (inr h) = rw (ne_eqb x 34 (omega arith), ne_eqb x 91 (omega arith), ne_eqb x 123 (omega arith), ne_eqb x 110 (omega arith), ne_eqb x 116 (omega arith), ne_eqb x 102 (omega arith)) refl
+
+    leads : (s : List ℕ) → Starts s → value_by E M (s ++ after) ≡ number_at (s ++ after)
+    leads [] k = absurd k
+    leads (x ∷ xs) k = first x (xs ++ after) k
 
 array_read : (d less : ℕ) (gap ys : List ℕ) (es : Elements) (after : List ℕ) → d ≡ suc less → IsGap gap → Stops is_space ys → elements_at (λ xs. value_at less xs) ys ≡ Some (es, after) → value_at d (91 ∷ (gap ++ ys)) ≡ Some (array gap es, after)
 unfolding nested
@@ -108,58 +109,58 @@ object_read : (d less : ℕ) (gap ys : List ℕ) (es : Entries) (after : List �
 unfolding nested
 object_read d less gap ys es after n h s e = rw (n, gap_is gap ys h s, past_gap_is gap ys h s, e) refl
 
-entry_read : (value : Parse Written) (name : List Piece) (before gap ys : List ℕ) (w : Written) (after : List ℕ) → ArePieces name → IsPlainString name → IsGap before → IsGap gap → Stops is_space ys → value ys ≡ Some (w, after) → entry_at value (34 ∷ pieces_spelled name (before ++ 58 ∷ (gap ++ ys))) ≡ Some (entry name before gap w, after)
-entry_read value name before gap ys w after p q b g s e =
-    rw (string_complete name (before ++ 58 ∷ (gap ++ ys)) p q, gap_is before (58 ∷ (gap ++ ys)) b refl, past_gap_is before (58 ∷ (gap ++ ys)) b refl, gap_is gap ys g s, past_gap_is gap ys g s, e) refl
+entry_read : (value : Parse Written) (name : List Piece) (before gap ys : List ℕ) (w : Written) (after : List ℕ) → IsString name → IsGap before → IsGap gap → Stops is_space ys → value ys ≡ Some (w, after) → entry_at value (34 ∷ pieces_spelled name (before ++ 58 ∷ (gap ++ ys))) ≡ Some (entry name before gap w, after)
+entry_read value name before gap ys w after p b g s e =
+    rw (string_complete name (before ++ 58 ∷ (gap ++ ys)) p, gap_is before (58 ∷ (gap ++ ys)) b refl, past_gap_is before (58 ∷ (gap ++ ys)) b refl, gap_is gap ys g s, past_gap_is gap ys g s, e) refl
 
 -- A value, with depth to spare.
 
 mutual
-  pub complete : (w : Written) (d : ℕ) (after : List ℕ) → IsWell w → IsPlain w → nesting w ≤ d → Stops is_numeric after → value_at d (spelled w after) ≡ Some (w, after)
-  complete null d after h p n s = refl
-  complete (boolean true) d after h p n s = refl
-  complete (boolean false) d after h p n s = refl
-  complete (number digits) d after h p n s = number_read (nested d).0 (nested d).1 digits after p s
-  complete (text ps) d after h p n s = rw (string_complete ps after h p) refl
-  complete (array gap es) d after h p n s =
-      array_read d (d - 1) gap (elements_spelled es after) es after (omega arith) h.0 (elements_begin es after p) (elements_complete es (d - 1) after h.1 p (omega arith))
-  complete (object gap es) d after h p n s =
-      object_read d (d - 1) gap (entries_spelled es after) es after (omega arith) h.0 (entries_begin es after) (rw (entries_complete es (d - 1) after h.1 p.0 (omega arith), p.1) refl)
+  pub complete : (w : Written) (d : ℕ) (after : List ℕ) → IsWell w → nesting w ≤ d → Stops is_numeric after → value_at d (spelled w after) ≡ Some (w, after)
+  complete null d after h n s = refl
+  complete (boolean true) d after h n s = refl
+  complete (boolean false) d after h n s = refl
+  complete (number digits) d after h n s = number_read (nested d).0 (nested d).1 digits after h s
+  complete (text ps) d after h n s = rw (string_complete ps after h) refl
+  complete (array gap es) d after h n s =
+      array_read d (d - 1) gap (elements_spelled es after) es after (omega arith) h.0 (elements_begin es after h.1) (elements_complete es (d - 1) after h.1 (omega arith))
+  complete (object gap es) d after h n s =
+      object_read d (d - 1) gap (entries_spelled es after) es after (omega arith) h.0 (entries_begin es after) (entries_complete es (d - 1) after h.1 (omega arith))
 
-  elements_complete : (es : Elements) (d : ℕ) (after : List ℕ) → AreWellElements es → ArePlainElements es → elements_nesting es ≤ d → elements_at (λ xs. value_at d xs) (elements_spelled es after) ≡ Some (es, after)
-  elements_complete no_elements d after h p n = refl
-  elements_complete (first_element w gap es) d after h p n =
+  elements_complete : (es : Elements) (d : ℕ) (after : List ℕ) → AreWellElements es → elements_nesting es ≤ d → elements_at (λ xs. value_at d xs) (elements_spelled es after) ≡ Some (es, after)
+  elements_complete no_elements d after h n = refl
+  elements_complete (first_element w gap es) d after h n =
       let ys : List ℕ = more_elements_spelled es after in
       all_complete 93 no_elements first_element end_elements next_element (λ xs. value_at d xs) (spelled w (gap ++ ys)) w gap ys es after
-      (begins w (gap ++ ys) p.0).1 (complete w d (gap ++ ys) h.0 p.0 (omega arith) (gap_quiet gap ys h.1 (more_begin es after).1)) h.1 (more_begin es after).0
-      (more_complete_elements es d (length ys) after h.2 p.1 (omega arith) (le_refl _))
+      (begins w (gap ++ ys) h.0).1 (complete w d (gap ++ ys) h.0 (omega arith) (gap_quiet gap ys h.1 (more_begin es after).1)) h.1 (more_begin es after).0
+      (more_complete_elements es d (length ys) after h.2 (omega arith) (le_refl _))
 
-  more_complete_elements : (es : MoreElements) (d count : ℕ) (after : List ℕ) → AreWellMore es → ArePlainMore es → more_nesting es ≤ d → length (more_elements_spelled es after) ≤ count → more_elements_at (λ xs. value_at d xs) count (more_elements_spelled es after) ≡ Some (es, after)
-  more_complete_elements end_elements d count after h p n c = let some : count ≡ suc (count - 1) = omega arith in rw some refl
-  more_complete_elements (next_element before w gap es) d count after h p n c =
+  more_complete_elements : (es : MoreElements) (d count : ℕ) (after : List ℕ) → AreWellMore es → more_nesting es ≤ d → length (more_elements_spelled es after) ≤ count → more_elements_at (λ xs. value_at d xs) count (more_elements_spelled es after) ≡ Some (es, after)
+  more_complete_elements end_elements d count after h n c = let some : count ≡ suc (count - 1) = omega arith in rw some refl
+  more_complete_elements (next_element before w gap es) d count after h n c =
       let ys : List ℕ = more_elements_spelled es after in
       let lengths = longer w (gap ++ ys) in
       more_complete 93 end_elements next_element (λ xs. value_at d xs) count (count - 1) before (spelled w (gap ++ ys)) w gap ys es after
-      (omega arith) refl h.0 (begins w (gap ++ ys) p.0).0 (complete w d (gap ++ ys) h.1 p.0 (omega arith) (gap_quiet gap ys h.2 (more_begin es after).1)) h.2 (more_begin es after).0
-      (more_complete_elements es d (count - 1) after h.3 p.1 (omega arith) (omega (arith, lengths, length-append gap ys, length-append before (spelled w (gap ++ ys)))))
+      (omega arith) refl h.0 (begins w (gap ++ ys) h.1).0 (complete w d (gap ++ ys) h.1 (omega arith) (gap_quiet gap ys h.2 (more_begin es after).1)) h.2 (more_begin es after).0
+      (more_complete_elements es d (count - 1) after h.3 (omega arith) (omega (arith, lengths, length-append gap ys, length-append before (spelled w (gap ++ ys)))))
 
-  entry_complete : (e : Entry) (d : ℕ) (after : List ℕ) → IsWellEntry e → IsPlainEntry e → entry_nesting e ≤ d → Stops is_numeric after → entry_at (λ xs. value_at d xs) (entry_spelled e after) ≡ Some (e, after)
-  entry_complete (entry name before gap w) d after h p n s =
-      entry_read (λ xs. value_at d xs) name before gap (spelled w after) w after h.0 p.0 h.1 h.2 (begins w after p.1).0 (complete w d after h.3 p.1 n s)
+  entry_complete : (e : Entry) (d : ℕ) (after : List ℕ) → IsWellEntry e → entry_nesting e ≤ d → Stops is_numeric after → entry_at (λ xs. value_at d xs) (entry_spelled e after) ≡ Some (e, after)
+  entry_complete (entry name before gap w) d after h n s =
+      entry_read (λ xs. value_at d xs) name before gap (spelled w after) w after h.0 h.1 h.2 (begins w after h.3).0 (complete w d after h.3 n s)
 
-  entries_complete : (es : Entries) (d : ℕ) (after : List ℕ) → AreWellEntries es → ArePlainEntries es → entries_nesting es ≤ d → all_entries_at (λ xs. value_at d xs) (entries_spelled es after) ≡ Some (es, after)
-  entries_complete no_entries d after h p n = refl
-  entries_complete (first_entry e gap es) d after h p n =
+  entries_complete : (es : Entries) (d : ℕ) (after : List ℕ) → AreWellEntries es → entries_nesting es ≤ d → entries_at (λ xs. value_at d xs) (entries_spelled es after) ≡ Some (es, after)
+  entries_complete no_entries d after h n = refl
+  entries_complete (first_entry e gap es) d after h n =
       let ys : List ℕ = more_entries_spelled es after in
       all_complete 125 no_entries first_entry end_entries next_entry (λ xs. entry_at (λ zs. value_at d zs) xs) (entry_spelled e (gap ++ ys)) e gap ys es after
-      (entry_begins e (gap ++ ys)).1 (entry_complete e d (gap ++ ys) h.0 p.0 (omega arith) (gap_quiet gap ys h.1 (more_entries_begin es after).1)) h.1 (more_entries_begin es after).0
-      (more_entries_complete es d (length ys) after h.2 p.1 (omega arith) (le_refl _))
+      (entry_begins e (gap ++ ys)).1 (entry_complete e d (gap ++ ys) h.0 (omega arith) (gap_quiet gap ys h.1 (more_entries_begin es after).1)) h.1 (more_entries_begin es after).0
+      (more_entries_complete es d (length ys) after h.2 (omega arith) (le_refl _))
 
-  more_entries_complete : (es : MoreEntries) (d count : ℕ) (after : List ℕ) → AreWellMoreEntries es → ArePlainMoreEntries es → more_entries_nesting es ≤ d → length (more_entries_spelled es after) ≤ count → more_entries_at (λ xs. value_at d xs) count (more_entries_spelled es after) ≡ Some (es, after)
-  more_entries_complete end_entries d count after h p n c = let some : count ≡ suc (count - 1) = omega arith in rw some refl
-  more_entries_complete (next_entry before e gap es) d count after h p n c =
+  more_entries_complete : (es : MoreEntries) (d count : ℕ) (after : List ℕ) → AreWellMoreEntries es → more_entries_nesting es ≤ d → length (more_entries_spelled es after) ≤ count → more_entries_at (λ xs. value_at d xs) count (more_entries_spelled es after) ≡ Some (es, after)
+  more_entries_complete end_entries d count after h n c = let some : count ≡ suc (count - 1) = omega arith in rw some refl
+  more_entries_complete (next_entry before e gap es) d count after h n c =
       let ys : List ℕ = more_entries_spelled es after in
       let lengths = entry_longer e (gap ++ ys) in
       more_complete 125 end_entries next_entry (λ xs. entry_at (λ zs. value_at d zs) xs) count (count - 1) before (entry_spelled e (gap ++ ys)) e gap ys es after
-      (omega arith) refl h.0 (entry_begins e (gap ++ ys)).0 (entry_complete e d (gap ++ ys) h.1 p.0 (omega arith) (gap_quiet gap ys h.2 (more_entries_begin es after).1)) h.2 (more_entries_begin es after).0
-      (more_entries_complete es d (count - 1) after h.3 p.1 (omega arith) (omega (arith, lengths, length-append gap ys, length-append before (entry_spelled e (gap ++ ys)))))
+      (omega arith) refl h.0 (entry_begins e (gap ++ ys)).0 (entry_complete e d (gap ++ ys) h.1 (omega arith) (gap_quiet gap ys h.2 (more_entries_begin es after).1)) h.2 (more_entries_begin es after).0
+      (more_entries_complete es d (count - 1) after h.3 (omega arith) (omega (arith, lengths, length-append gap ys, length-append before (entry_spelled e (gap ++ ys)))))

@@ -1,7 +1,7 @@
-mod Gaps
+pub mod Gaps
 mod Holds
 mod Strings
-mod Numbers
+pub mod Numbers
 mod Listed
 mod Sound
 mod Complete

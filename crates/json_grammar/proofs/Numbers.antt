@@ -1,62 +1,91 @@
--- A small number is a number, and consists of bytes of numbers.
-use Rattle.std.proofs.Common.{◌≡◌, ◌⊎◌, inl, inr, ⊎_elim, refl, sym, ap, ◌∙◌, ℕ, ◌≤◌, List, [], ◌∷◌, Bool, true, false, cond, eqb-true, append-nil, arith, ◌&&◌, nat_lt, nat_le, ◌^◌, ◌==◌}
-use Rattle.std.specs.List.{list_all, AllByRecursion}
-use Rattle.std.proofs.lemmas.Bool.{and_parts}
+-- A number consists of bytes of numbers, begins as a number, and is what is read of its bytes.
+use Rattle.std.proofs.Common.{◌≡◌, ◌⊎◌, inl, inr, refl, sym, subst, ℕ, List, [], ◌∷◌, ◌++◌, Bool, true, false, Option, Some, None, arith}
+use Rattle.std.specs.Prelude.{is_some}
+use Rattle.std.specs.List.{AllByRecursion}
 use Rattle.std.proofs.lemmas.Bool.Decides.{nat_tests}
-use Rattle.json_grammar.specs.Grammar.{IsDigit, IsWhole, IsNumber}
-use Rattle.json_grammar.specs.Plain.{is_digit, is_empty, is_whole, is_small, digits_value}
+use Rattle.exact_num.specs.Spelling as numbers
+use Rattle.exact_num.specs.Spelling.{IsDigit, AreDigits, IsWhole, IsExponent, IsSpelling, Sign, unmarked, plus, minus, Exponent, no_exponent, exponent, sign_text, fraction_text, mark_text, exponent_text}
+use Rattle.exact_num.specs.Parsing.{parsed}
+use Rattle.json_grammar.specs.Grammar.{IsNumber}
 use Rattle.json_grammar.specs.Reading.{is_numeric}
 use Rattle.json_grammar.proofs.Gaps.{Passes}
+use Rattle.exact_num.proofs.Complete.{parsed_complete}
+use Rattle.exact_num.proofs.Sound.{parsed_sound}
 
-digit_is : (x : ℕ) → is_digit x ≡ true → IsDigit x
-digit_is x h = grind (arith, nat_tests)
+-- its bytes are those of which numbers consist
 
-first_digit_is : (x : ℕ) → is_digit x ≡ true → (x == 48) ≡ false → (49 ≤ x) × (x ≤ 57)
-first_digit_is x h e = grind (arith, nat_tests)
+passes_append : (p : ℕ → Bool) (xs ys : List ℕ) → Passes p xs → Passes p ys → Passes p (xs ++ ys)
+passes_append p [] ys h k = k
+passes_append p (x ∷ xs) ys h k = (h.0, passes_append p xs ys h.1 k)
 
-digit_numeric : (x : ℕ) → is_digit x ≡ true → is_numeric x ≡ true
-digit_numeric x h = rw h refl
+digit_passes : (x : ℕ) → IsDigit x → is_numeric x ≡ true
+digit_passes x h = let low = h.0 in let high = h.1 in grind (arith, nat_tests)
 
-digits_are : (xs : List ℕ) → list_all is_digit xs ≡ true → AllByRecursion IsDigit xs
-digits_are [] h = tt
-digits_are (x ∷ xs) h = let both = and_parts (is_digit x) (list_all is_digit xs) h in (digit_is x both.0, digits_are xs both.1)
+digits_pass : (ds : List ℕ) → AllByRecursion IsDigit ds → Passes is_numeric ds
+digits_pass [] h = tt
+digits_pass (d ∷ ds) h = (digit_passes d h.0, digits_pass ds h.1)
 
-digits_numeric : (xs : List ℕ) → list_all is_digit xs ≡ true → Passes is_numeric xs
-digits_numeric [] h = tt
-digits_numeric (x ∷ xs) h = let both = and_parts (is_digit x) (list_all is_digit xs) h in (digit_numeric x both.0, digits_numeric xs both.1)
+some_digits_pass : (ds : List ℕ) → AreDigits ds → Passes is_numeric ds
+some_digits_pass [] h = absurd h
+some_digits_pass (d ∷ ds) h = digits_pass (d ∷ ds) h
 
-whole_is : (s : List ℕ) → is_whole s ≡ true → IsWhole s × Passes is_numeric s
-whole_is [] h = cc
-whole_is (x ∷ xs) h = by (x == 48) refl xs h
+sign_passes : (negative : Bool) → Passes is_numeric (sign_text negative)
+sign_passes true = (refl, tt)
+sign_passes false = tt
+
+whole_digits : (ds : List ℕ) → IsWhole ds → AreDigits ds
+whole_digits [] h = absurd h
+whole_digits (d ∷ ds) (inl h) = rw (h.0, h.1) ((omega arith, omega arith), tt)
+whole_digits (d ∷ ds) (inr h) = ((omega (arith, h.0), h.1), h.2)
+
+fraction_passes : (ds : List ℕ) → AllByRecursion IsDigit ds → Passes is_numeric (fraction_text ds)
+fraction_passes [] h = tt
+fraction_passes (d ∷ ds) h = (refl, digits_pass (d ∷ ds) h)
+
+mark_passes : (sign : Sign) → Passes is_numeric (mark_text sign)
+mark_passes unmarked = tt
+mark_passes plus = (refl, tt)
+mark_passes minus = (refl, tt)
+
+exponent_passes : (e : Exponent) → IsExponent e → Passes is_numeric (exponent_text e)
+exponent_passes no_exponent h = tt
+exponent_passes (exponent mark sign ds) h = (marks mark h.0, passes_append is_numeric (mark_text sign) ds (mark_passes sign) (some_digits_pass ds h.1))
   where
-    by : (b : Bool) → (x == 48) ≡ b → (ys : List ℕ) → cond b (is_empty ys) (is_digit x && list_all is_digit ys) ≡ true → IsWhole (x ∷ ys) × Passes is_numeric (x ∷ ys)
-    by true e [] f = (inl (eqb-true x 48 e, refl), (rw (eqb-true x 48 e) refl, tt))
-    by true e (y ∷ ys) f = cc
-    by false e ys f =
-        let both = and_parts (is_digit x) (list_all is_digit ys) f in
-        let first = first_digit_is x both.0 e in
-        (inr (first.0, first.1, digits_are ys both.1), (digit_numeric x both.0, digits_numeric ys both.1))
+    marks : (mark : ℕ) → (mark ≡ 69) ⊎ (mark ≡ 101) → is_numeric mark ≡ true
+    marks mark (inl e) = rw e refl
+    marks mark (inr e) = rw e refl
 
-pub small_is : (s : List ℕ) → is_small s ≡ true → IsNumber s × Passes is_numeric s
-unfolding is_small
-small_is [] h = cc
-small_is (x ∷ xs) h = by (x == 45) refl h
-  where
-    by : (b : Bool) → (x == 45) ≡ b → cond b (is_whole xs && (nat_lt 0 (digits_value 0 xs) && nat_le (digits_value 0 xs) (2 ^ 63))) (is_whole (x ∷ xs) && nat_lt (digits_value 0 (x ∷ xs)) (2 ^ 63)) ≡ true → IsNumber (x ∷ xs) × Passes is_numeric (x ∷ xs)
-    by true e f =
-        let whole = whole_is xs (and_parts (is_whole xs) _ f).0 in (
-          record { sign = 45 ∷ []; whole = xs; fraction = []; exponent = []; parts = ap (λ y. y ∷ xs) (eqb-true x 45 e) ∙ ap (λ ys. 45 ∷ ys) (sym (append-nil xs)); is_sign = inr refl; is_whole = whole.0; is_fraction = tt; is_exponent = tt },
-          (rw (eqb-true x 45 e) refl, whole.1),
-        )
-    by false e f =
-        let whole = whole_is (x ∷ xs) (and_parts (is_whole (x ∷ xs)) _ f).0 in
-        (record { sign = []; whole = x ∷ xs; fraction = []; exponent = []; parts = ap (λ ys. x ∷ ys) (sym (append-nil xs)); is_sign = inl refl; is_whole = whole.0; is_fraction = tt; is_exponent = tt }, whole.1)
+pub number_passes : (s : List ℕ) → IsNumber s → Passes is_numeric s
+number_passes s h =
+    let w = h.parts in
+    let known = h.is_spelling in
+    subst (Passes is_numeric) (sym known.bytes)
+    (passes_append is_numeric (sign_text w.negative) (w.whole ++ (fraction_text w.fraction ++ exponent_text w.power)) (sign_passes w.negative)
+    (passes_append is_numeric w.whole (fraction_text w.fraction ++ exponent_text w.power) (some_digits_pass w.whole (whole_digits w.whole known.is_whole))
+    (passes_append is_numeric (fraction_text w.fraction) (exponent_text w.power) (fraction_passes w.fraction known.is_fraction) (exponent_passes w.power known.is_exponent))))
 
 -- it begins with a minus or a digit
-pub small_starts : (x : ℕ) (xs : List ℕ) → is_small (x ∷ xs) ≡ true → (x ≡ 45) ⊎ IsDigit x
-unfolding is_small
-small_starts x xs h = by (x == 45) refl h
+
+abbrev pub Starts : List ℕ → Type 0
+Starts [] = ⊥
+Starts (x ∷ xs) = (x ≡ 45) ⊎ IsDigit x
+
+pub number_starts : (s : List ℕ) → IsNumber s → Starts s
+number_starts s h = subst Starts (sym h.is_spelling.bytes) (by h.parts.negative h.parts.whole _ h.is_spelling.is_whole)
   where
-    by : (b : Bool) → (x == 45) ≡ b → cond b (is_whole xs && (nat_lt 0 (digits_value 0 xs) && nat_le (digits_value 0 xs) (2 ^ 63))) (is_whole (x ∷ xs) && nat_lt (digits_value 0 (x ∷ xs)) (2 ^ 63)) ≡ true → (x ≡ 45) ⊎ IsDigit x
-    by true e f = inl (eqb-true x 45 e)
-    by false e f = inr (⊎_elim (λ h. (omega (arith, h), omega (arith, h))) (λ h. (omega (arith, h), omega (arith, h))) (whole_is (x ∷ xs) (and_parts (is_whole (x ∷ xs)) _ f).0).0)
+    by : (negative : Bool) (whole rest : List ℕ) → IsWhole whole → Starts (sign_text negative ++ (whole ++ rest))
+    by true whole rest k = inl refl
+    by false [] rest k = absurd k
+    by false (d ∷ ds) rest k = inr (whole_digits (d ∷ ds) k).0
+
+-- reading tells whether bytes are a number
+
+pub number_complete : (s : List ℕ) → IsNumber s → is_some (parsed s) ≡ true
+number_complete s h = rw (parsed_complete s h.parts h.is_spelling) refl
+
+pub number_sound : (s : List ℕ) → is_some (parsed s) ≡ true → IsNumber s
+number_sound s e = by (parsed s) refl e
+  where
+    by : (o : Option numbers.Written) → parsed s ≡ o → is_some o ≡ true → IsNumber s
+    by None read e = cc
+    by (Some w) read e = record { parts = w; is_spelling = parsed_sound s w read }

@@ -1,14 +1,10 @@
 -- The grammar of RFC 8259 as derivation trees: a `Written` is one way in which a value is spelled, with
 -- its white space, its escapes and its digits. `spelled` gives the bytes, `IsWell` what the grammar asks.
-use Rattle.std.specs.Prelude.{◌≡◌, ◌≢◌, ℕ, ◌+◌, ◌≤◌, ◌⊎◌, max, List, [], ◌∷◌, ◌++◌, Bool, cond, codes, Contains}
+use Rattle.std.specs.Prelude.{◌≡◌, ℕ, ◌+◌, ◌⊎◌, max, List, ◌∷◌, ◌++◌, Bool, cond, codes}
 use Rattle.std.specs.List.{AllByRecursion}
-
--- one byte of a string as it stands, an escape of two characters, or \u with its four digits
--- (section 7)
-pub data Piece : Type 0 where
-  byte : ℕ → Piece
-  short : ℕ → Piece
-  unit : ℕ → ℕ → ℕ → ℕ → Piece
+use Rattle.exact_num.specs.Spelling as numbers
+use Rattle.json_strings.specs.Pieces.{Piece, pieces_spelled}
+use Rattle.json_strings.specs.Meaning.{IsString}
 
 mutual
   pub data Written : Type 0 where
@@ -42,13 +38,6 @@ mutual
     next_entry : List ℕ → Entry → List ℕ → MoreEntries → MoreEntries
 
 -- The bytes, with `after` behind them.
-
--- the rest of a string from its opening quote on
-abbrev pub pieces_spelled : List Piece → List ℕ → List ℕ
-pieces_spelled [] after = 34 ∷ after
-pieces_spelled (byte x ∷ ps) after = x ∷ pieces_spelled ps after
-pieces_spelled (short x ∷ ps) after = 92 ∷ (x ∷ pieces_spelled ps after)
-pieces_spelled (unit a b c d ∷ ps) after = 92 ∷ (117 ∷ (a ∷ (b ∷ (c ∷ (d ∷ pieces_spelled ps after)))))
 
 abbrev mutual
   pub spelled : Written → List ℕ → List ℕ
@@ -87,64 +76,17 @@ IsSpace x = (x ≡ 32) ⊎ ((x ≡ 9) ⊎ ((x ≡ 10) ⊎ (x ≡ 13)))
 abbrev pub IsGap : List ℕ → Type 0
 IsGap xs = AllByRecursion IsSpace xs
 
-abbrev pub IsDigit : ℕ → Type 0
-IsDigit x = (48 ≤ x) × (x ≤ 57)
-
-abbrev pub IsHexDigit : ℕ → Type 0
-IsHexDigit x = IsDigit x ⊎ (((65 ≤ x) × (x ≤ 70)) ⊎ ((97 ≤ x) × (x ≤ 102)))
-
--- the characters of a string (section 7); that they are UTF-8 is asked of the whole (section 8.1)
-abbrev pub IsPiece : Piece → Type 0
-IsPiece (byte x) = (32 ≤ x) × (x ≢ 34) × (x ≢ 92)
-IsPiece (short x) = Contains (34 ∷ (92 ∷ (47 ∷ (98 ∷ (102 ∷ (110 ∷ (114 ∷ (116 ∷ [])))))))) x
-IsPiece (unit a b c d) = IsHexDigit a × IsHexDigit b × IsHexDigit c × IsHexDigit d
-
-abbrev pub ArePieces : List Piece → Type 0
-ArePieces ps = AllByRecursion IsPiece ps
-
--- one digit or more
-abbrev pub AreDigits : List ℕ → Type 0
-AreDigits [] = ⊥
-AreDigits (x ∷ xs) = IsDigit x × AllByRecursion IsDigit xs
-
--- the parts of a number (section 6)
-abbrev pub IsSign : List ℕ → Type 0
-IsSign s = (s ≡ []) ⊎ (s ≡ 45 ∷ [])
-
-abbrev pub IsWhole : List ℕ → Type 0
-IsWhole [] = ⊥
-IsWhole (x ∷ xs) = ((x ≡ 48) × (xs ≡ [])) ⊎ ((49 ≤ x) × (x ≤ 57) × AllByRecursion IsDigit xs)
-
-abbrev pub IsFraction : List ℕ → Type 0
-IsFraction [] = Unit {0}
-IsFraction (x ∷ xs) = (x ≡ 46) × AreDigits xs
-
--- the digits of an exponent, which may have a sign
-abbrev pub IsPower : List ℕ → Type 0
-IsPower [] = ⊥
-IsPower (x ∷ xs) = (((x ≡ 43) ⊎ (x ≡ 45)) × AreDigits xs) ⊎ AreDigits (x ∷ xs)
-
-abbrev pub IsExponent : List ℕ → Type 0
-IsExponent [] = Unit {0}
-IsExponent (x ∷ xs) = ((x ≡ 69) ⊎ (x ≡ 101)) × IsPower xs
-
+-- a number (section 6), by its parts
 pub record IsNumber (s : List ℕ) : Type 0 where
-  pub sign : List ℕ
-  pub whole : List ℕ
-  pub fraction : List ℕ
-  pub exponent : List ℕ
-  pub parts : s ≡ sign ++ (whole ++ (fraction ++ exponent))
-  pub is_sign : IsSign sign
-  pub is_whole : IsWhole whole
-  pub is_fraction : IsFraction fraction
-  pub is_exponent : IsExponent exponent
+  pub parts : numbers.Written
+  pub is_spelling : numbers.IsSpelling s parts
 
 abbrev mutual
   pub IsWell : Written → Type 0
   IsWell null = Unit {0}
   IsWell (boolean b) = Unit {0}
   IsWell (number s) = IsNumber s
-  IsWell (text ps) = ArePieces ps
+  IsWell (text ps) = IsString ps
   IsWell (array gap es) = IsGap gap × AreWellElements es
   IsWell (object gap es) = IsGap gap × AreWellEntries es
 
@@ -157,7 +99,7 @@ abbrev mutual
   AreWellMore (next_element before w gap es) = IsGap before × IsWell w × IsGap gap × AreWellMore es
 
   pub IsWellEntry : Entry → Type 0
-  IsWellEntry (entry name before gap w) = ArePieces name × IsGap before × IsGap gap × IsWell w
+  IsWellEntry (entry name before gap w) = IsString name × IsGap before × IsGap gap × IsWell w
 
   pub AreWellEntries : Entries → Type 0
   AreWellEntries no_entries = Unit {0}

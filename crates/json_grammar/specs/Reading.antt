@@ -1,11 +1,10 @@
 -- The reading of a text as functions on lists, call by call as a parser makes them. They give the derivation
 -- tree and the bytes behind it. The arrays and objects that may still be opened are the recursion's measure.
-use Rattle.std.specs.Prelude.{◌==◌, nat_le, ℕ, suc, zero, List, [], ◌∷◌, Bool, true, false, cond, ◌&&◌, ◌||◌, not, Option, Some, None, codes, length}
+use Rattle.std.specs.Prelude.{◌==◌, nat_le, ℕ, suc, zero, List, [], ◌∷◌, Bool, true, false, cond, ◌&&◌, ◌||◌, Option, Some, None, is_some, codes, length}
 use Rattle.std.specs.Option.{option_map}
-use Rattle.std.specs.Str.{is_utf8}
-use Rattle.vs_bytes.specs.Names.{repeats}
-use Rattle.json_grammar.specs.Grammar.{Piece, byte, Written, null, boolean, number, text, array, object, Elements, no_elements, first_element, MoreElements, end_elements, next_element, Entry, entry, Entries, no_entries, first_entry, MoreEntries, end_entries, next_entry}
-use Rattle.json_grammar.specs.Plain.{bytes_of, is_digit, is_empty, is_small, names}
+use Rattle.exact_num.specs.Parsing.{parsed}
+use Rattle.json_strings.specs.Reading.{string_at}
+use Rattle.json_grammar.specs.Grammar.{Written, null, boolean, number, text, array, object, Elements, no_elements, first_element, MoreElements, end_elements, next_element, Entry, entry, Entries, no_entries, first_entry, MoreEntries, end_entries, next_entry}
 
 -- what is read, and the bytes behind it
 abbrev pub Parse : Type 0 → Type 0
@@ -46,28 +45,13 @@ past_word (b ∷ bs) xs = and_then (past b xs) (λ rest. past_word bs rest)
 abbrev pub word_at : List ℕ → Written → Parse Written
 word_at bytes w xs = option_map (λ rest. (w, rest)) (past_word bytes xs)
 
--- a byte that stands for itself in a string
-abbrev pub is_plain : ℕ → Bool
-is_plain x = nat_le 32 x && not (x == 92)
-
-abbrev pub with_piece : Piece → List Piece × List ℕ → List Piece × List ℕ
-with_piece piece read = (piece ∷ read.0, read.1)
-
--- the rest of a string from its opening quote on
-abbrev pub pieces_at : Parse (List Piece)
-pieces_at [] = None
-pieces_at (x ∷ xs) = cond (x == 34) (Some ([], xs)) (cond (is_plain x) (option_map (with_piece (byte x)) (pieces_at xs)) None)
-
-abbrev pub string_at : Parse (List Piece)
-string_at xs = and_then (pieces_at xs) (λ read. cond (is_utf8 (bytes_of read.0)) (Some read) None)
-
 -- the bytes of which numbers consist: 0-9 + - . e E
 abbrev pub is_numeric : ℕ → Bool
-is_numeric x = is_digit x || (x == 43 || (x == 45 || (x == 46 || (x == 69 || x == 101))))
+is_numeric x = (nat_le 48 x && nat_le x 57) || (x == 43 || (x == 45 || (x == 46 || (x == 69 || x == 101))))
 
 -- all such bytes in front are one number
 abbrev pub number_at : Parse Written
-number_at xs = cond (is_small (front is_numeric xs)) (Some (number (front is_numeric xs), back is_numeric xs)) None
+number_at xs = cond (is_some (parsed (front is_numeric xs))) (Some (number (front is_numeric xs), back is_numeric xs)) None
 
 -- what is read where a closing byte stands in front, and where none does
 abbrev pub closed : {A : Type 0} → A → Option (List ℕ) → Option (A × List ℕ) → Option (A × List ℕ)
@@ -106,12 +90,8 @@ entry_at value xs =
 abbrev pub more_entries_at : Parse Written → ℕ → Parse MoreEntries
 more_entries_at value count xs = more_at 125 end_entries next_entry (entry_at value) count xs
 
-abbrev pub all_entries_at : Parse Written → Parse Entries
-all_entries_at value xs = all_at 125 no_entries first_entry end_entries next_entry (entry_at value) xs
-
--- no name may stand twice
 abbrev pub entries_at : Parse Written → Parse Entries
-entries_at value xs = and_then (all_entries_at value xs) (λ read. cond (repeats (names read.0)) None (Some read))
+entries_at value xs = all_at 125 no_entries first_entry end_entries next_entry (entry_at value) xs
 
 abbrev pub text_at : Parse Written
 text_at xs = option_map (λ read. (text read.0, read.1)) (string_at xs)
@@ -143,6 +123,10 @@ nested (suc depth) =
 
 abbrev pub value_at : ℕ → Parse Written
 value_at depth xs = value_by (nested depth).0 (nested depth).1 xs
+
+abbrev pub is_empty : List ℕ → Bool
+is_empty [] = true
+is_empty (x ∷ xs) = false
 
 -- a whole text: a value, with white space round it, that has at most so many arrays and objects open at once
 abbrev pub text_within : ℕ → List ℕ → Option Written

@@ -3,20 +3,19 @@
 
 ghost use Rattle.std.specs.Prelude.{◌≡◌, ◌≤◌, List, ℕ, Some};
 ghost use Rattle.json_grammar.specs.Grammar.{Written, IsWrittenAs, nesting};
-ghost use Rattle.json_grammar.specs.Plain.{IsPlain};
 ghost use Rattle.json_grammar.specs.Reading.{document_at};
 
-/// A plain derivation of a line, with at most 64 arrays and objects open at once, is what is read.
+/// A derivation of a line, with at most 64 arrays and objects open at once, is what is read.
 pub fn reading_is_complete()
-    ensures { (line : List ℕ) (w : Written) → IsWrittenAs line w → IsPlain w → nesting w ≤ 64 → document_at line ≡ Some w }
+    ensures { (line : List ℕ) (w : Written) → IsWrittenAs line w → nesting w ≤ 64 → document_at line ≡ Some w }
 {}
 
-/// What is read is a plain derivation of the line.
+/// What is read is a derivation of the line, of such nesting.
 pub fn reading_is_sound()
-    ensures { (line : List ℕ) (w : Written) → document_at line ≡ Some w → IsWrittenAs line w × IsPlain w × (nesting w ≤ 64) }
+    ensures { (line : List ℕ) (w : Written) → document_at line ≡ Some w → IsWrittenAs line w × (nesting w ≤ 64) }
 {}
 
-/// A line has one plain derivation at most, whatever its nesting.
+/// A line has one derivation at most, whatever its nesting.
 pub fn written_once()
-    ensures { (line : List ℕ) (v w : Written) → IsWrittenAs line v → IsPlain v → IsWrittenAs line w → IsPlain w → v ≡ w }
+    ensures { (line : List ℕ) (v w : Written) → IsWrittenAs line v → IsWrittenAs line w → v ≡ w }
 {}

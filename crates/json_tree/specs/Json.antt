@@ -1,12 +1,13 @@
 -- A JSON value (RFC 8259, section 3), apart from its spelling.
-use Rattle.std.specs.Prelude.{ℕ, ◌+◌, ℤ, max, List, [], ◌∷◌, Bool}
+use Rattle.std.specs.Prelude.{ℕ, ◌+◌, max, List, [], ◌∷◌, Bool}
+use Rattle.exact_num.specs.Decimal.{Decimal}
 
 mutual
   pub data Json : Type 0 where
     null : Json
     boolean : Bool → Json
-    -- whole numbers, for now
-    number : ℤ → Json
+    -- an exact decimal in least scale
+    number : Decimal → Json
     -- UTF-8 bytes
     text : List ℕ → Json
     array : Parts → Json
@@ -50,7 +51,7 @@ abbrev mutual
   pub depth_of : Json → ℕ
   depth_of null = 0
   depth_of (boolean b) = 0
-  depth_of (number z) = 0
+  depth_of (number d) = 0
   depth_of (text s) = 0
   depth_of (array ps) = parts_depth ps + 1
   depth_of (object fs) = fields_depth fs + 1

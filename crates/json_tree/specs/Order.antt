@@ -14,7 +14,7 @@ abbrev mutual
   pub IsOrdered : Json → Type 0
   IsOrdered null = Unit {0}
   IsOrdered (boolean b) = Unit {0}
-  IsOrdered (number z) = Unit {0}
+  IsOrdered (number d) = Unit {0}
   IsOrdered (text s) = Unit {0}
   IsOrdered (array ps) = AreOrdered ps
   IsOrdered (object fs) = NamesRise fs × HoldOrdered fs

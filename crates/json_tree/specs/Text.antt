@@ -1,7 +1,7 @@
 -- The canonical JSON text of a value: no white space, names in their order, and of the escapes of
 -- RFC 8259, section 7, the short one where there is one.
 use Rattle.std.specs.Prelude.{ℕ, ◌+◌, ◌/◌, ◌%◌, ◌==◌, nat_lt, List, [], ◌∷◌, ◌++◌, cond, codes}
-use Rattle.std.specs.Fmt.{signed_decimal}
+use Rattle.exact_num.specs.Text as numbers
 use Rattle.std.specs.List.{flat_map}
 use Rattle.json_tree.specs.Json.{Json, null, boolean, number, text, array, object, Parts, no_parts, part, Fields, no_fields, field}
 
@@ -30,7 +30,7 @@ abbrev mutual
   pub text_of : Json → List ℕ
   text_of null = codes "null"
   text_of (boolean b) = cond b (codes "true") (codes "false")
-  text_of (number z) = signed_decimal z
+  text_of (number d) = numbers.text_of d
   text_of (text s) = quoted s
   text_of (array ps) = 91 ∷ (parts_text ps ++ 93 ∷ [])
   text_of (object fs) = 123 ∷ (fields_text fs ++ 125 ∷ [])

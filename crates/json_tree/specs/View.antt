@@ -1,6 +1,7 @@
 -- What a tree stands for, as plain data.
 use Rattle.std.specs.Prelude.{ℕ, List}
 use Rattle.json_tree.specs.Json.{Json, null, boolean, number, text, array, object, Parts, parts_of, Fields, fields_of}
+use Rattle.exact_num.specs.NumberOf.{decimal_of}
 use Rattle.json_tree.specs.declared.types.Tree.{Tree, fold-Tree}
 use Rattle.json_tree.specs.declared.types.Tree.TheOpen.{Tree-F, Items-F, Members-F}
 use Rattle.json_tree.specs.declared.types.Items.{Items, fold-Items}
@@ -10,7 +11,7 @@ use Rattle.json_tree.specs.declared.types.Members.{Members, fold-Members}
 abbrev pub tree_step : Tree-F Json Parts Fields → Json
 tree_step Tree-F.Null = null
 tree_step (Tree-F.Bool b) = boolean b
-tree_step (Tree-F.Num n) = number n.whole
+tree_step (Tree-F.Num n) = number (decimal_of n)
 tree_step (Tree-F.Text s) = text s
 tree_step (Tree-F.Array ps) = array ps
 tree_step (Tree-F.Object fs) = object fs

@@ -1,13 +1,14 @@
 //! How long the canonical text of a tree is.
 
 ghost use Rattle.std.specs.Prelude.{◌≡◌, ◌≤◌, ◌-◌, ◌^◌, ◌++◌, ◌∷◌, [], map, min, length, flat_map};
-ghost use Rattle.std.specs.Fmt.{signed_decimal};
+ghost use Rattle.exact_num.specs.NumberOf.{decimal_of};
+ghost use Rattle.exact_num.specs.Text as numbers;
 ghost use Rattle.json_tree.specs.Json.{parts_of, fields_of};
 ghost use Rattle.json_tree.specs.Text.{text_of, parts_text, fields_text, quoted, escaped};
 ghost use Rattle.json_tree.specs.View.{view, seen};
 
-use crate::numbers::Number;
 use crate::types::Tree;
+use exact_num::Number;
 use vs_bytes::Text;
 
 /// The bytes that the canonical text of `tree` takes, and at most `u64::MAX`. It takes no memory.
@@ -66,10 +67,9 @@ fn member_len(name: &Text, tree: &Tree) -> u64
 }
 
 fn number_len(number: Number) -> u64
-    ensures { result ≡ min (length (signed_decimal number.whole)) (2 ^ 64 - 1) }
+    ensures { result ≡ min (length (numbers.text_of (decimal_of number))) (2 ^ 64 - 1) }
 {
-    let mut digits = itoa::Buffer::new();
-    digits.format(number.whole).len() as u64
+    exact_num::text_len(number)
 }
 
 fn quoted_len(text: &[u8]) -> u64

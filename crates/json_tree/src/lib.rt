@@ -2,7 +2,6 @@
 //!
 //! | Module | What it holds |
 //! |---|---|
-//! | `numbers` | `Number`: a whole number |
 //! | `types` | `Tree`, the items of an array, the members of an object |
 //! | `name_order` | members in the order of their names |
 //! | `printing` | `print`, `print_text`: the canonical text |
@@ -16,15 +15,14 @@ mod copies;
 mod depths;
 mod lengths;
 mod name_order;
-mod numbers;
 mod printing;
 mod sameness;
 mod types;
 
 pub use copies::copy;
 pub use depths::depth;
+pub use exact_num::Number;
 pub use lengths::text_len;
-pub use numbers::Number;
 pub use printing::{print, print_text};
 pub use sameness::same;
 pub use types::{Items, Members, MembersFault, Tree};

@@ -2,14 +2,15 @@
 //! RFC 8259, section 7, the short one where there is one.
 
 ghost use Rattle.std.specs.Prelude.{◌≡◌, ◌++◌, ◌∷◌, [], map, flat_map, OnOk, OnErr, IsFalse, ◌<◌};
-ghost use Rattle.std.specs.Fmt.{signed_decimal};
+ghost use Rattle.exact_num.specs.NumberOf.{decimal_of};
+ghost use Rattle.exact_num.specs.Text as numbers;
 ghost use Rattle.json_tree.specs.Grown.{Grows};
 ghost use Rattle.json_tree.specs.Json.{parts_of, fields_of};
 ghost use Rattle.json_tree.specs.Text.{text_of, parts_text, fields_text, quoted, escaped, hex_digit};
 ghost use Rattle.json_tree.specs.View.{view, seen};
 
-use crate::numbers::Number;
 use crate::types::Tree;
+use exact_num::Number;
 use std::alloc::AllocError;
 use vs_bytes::{NoMemory, Text};
 
@@ -118,11 +119,13 @@ fn put_member(into: &mut Vec<u8>, name: &Text, tree: &Tree) -> Result<(), AllocE
 }
 
 fn put_number(into: &mut Vec<u8>, number: Number) -> Result<(), AllocError>
-    ensures ok { OnOk result (into.new.items ≡ into.old.items ++ signed_decimal number.whole) }
+    ensures ok { OnOk result (into.new.items ≡ into.old.items ++ numbers.text_of (decimal_of number)) }
     ensures grows { Grows into.old.items into.new.items }
 {
-    let mut digits = itoa::Buffer::new();
-    into.extend_from_slice(digits.format(number.whole).as_bytes())
+    match exact_num::print(into, number) {
+        Ok(()) => Ok(()),
+        Err(NoMemory) => Err(AllocError),
+    }
 }
 
 fn put_text(into: &mut Vec<u8>, text: &[u8]) -> Result<(), AllocError>

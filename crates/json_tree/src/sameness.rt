@@ -1,9 +1,11 @@
 //! Equality of trees.
 
 ghost use Rattle.std.specs.Prelude.{◌≡◌, ◌↔◌, map, IsTrue};
+ghost use Rattle.exact_num.specs.NumberOf.{decimal_of};
 ghost use Rattle.json_tree.specs.View.{view, seen};
 
 use crate::types::Tree;
+use exact_num::Number;
 use vs_bytes::Text;
 
 /// Whether two trees have the same value.
@@ -21,7 +23,7 @@ pub fn same(a: &Tree, b: &Tree) -> bool
             _ => false,
         },
         Tree::Num(x) => match b {
-            Tree::Num(y) => x.whole == y.whole,
+            Tree::Num(y) => same_number(*x, *y),
             _ => false,
         },
         Tree::Text(x) => match b {
@@ -74,4 +76,11 @@ fn same_member(a_name: &Text, a: &Tree, b_name: &Text, b: &Tree) -> bool
     ensures { IsTrue result ↔ ((a_name.now ≡ b_name.now) × (view a.now ≡ view b.now)) }
 {
     a_name.as_bytes() == b_name.as_bytes() && same(a, b)
+}
+
+// A value has one number.
+fn same_number(a: Number, b: Number) -> bool
+    ensures { IsTrue result ↔ (decimal_of a ≡ decimal_of b) }
+{
+    a.unscaled() == b.unscaled() && a.scale() == b.scale()
 }

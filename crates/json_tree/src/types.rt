@@ -8,7 +8,7 @@ ghost use Rattle.json_tree.specs.Order.{NamesRise, sorted, member_of};
 ghost use Rattle.json_tree.specs.View.{view, items_view, members_view, seen, trees_of, pairs_of};
 
 use crate::name_order::{against_name, put_in_order};
-use crate::numbers::Number;
+use exact_num::Number;
 use std::alloc::Global;
 use vs_bytes::{NoMemory, Text};
 

@@ -30,7 +30,7 @@ completes words (Some i) left old new U reads reads_now writes writes_now err_ol
     let bad = r.0 in
     let same = same_word words ask.word bad.word ask.are_scan bad.are_scan in
     absurd (bad.is_none names (subst (λ (w : List ℕ). IsPath w names) same ask.is_path))
-completes words (Some i) left old new U reads reads_now writes writes_now err_old err_new faults faults_now status (Err (refusal.NotPlain n)) r p q e = λ names ds ask has no_read no_write.
+completes words (Some i) left old new U reads reads_now writes writes_now err_old err_new faults faults_now status (Err (refusal.BadLine n fault)) r p q e = λ names ds ask has no_read no_write.
     let scans = r.2 in
     let same = one_ending i _ ds _ at_end scans.1 has in
     cc

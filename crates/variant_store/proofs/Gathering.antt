@@ -104,7 +104,7 @@ drain_failed names None rest s old written new pending left f h d = tt
 drain_failed names (Some i) None s old written new pending left f h d = absurd h.known
 drain_failed names (Some i) (Some r) s old written new pending left refusal.WriteFault h d = prefix_of_all names i r s old written new pending h.extends h.known d
 drain_failed names (Some i) (Some r) s old written new pending left refusal.NoMemory h d = prefix_of_all names i r s old written new pending h.extends h.known d
-drain_failed names (Some i) (Some r) s old written new pending left (refusal.NotPlain n) h d = absurd d
+drain_failed names (Some i) (Some r) s old written new pending left (refusal.BadLine n fault) h d = absurd d
 drain_failed names (Some i) (Some r) s old written new pending left refusal.InputTooLong h d = absurd d
 drain_failed names (Some i) (Some r) s old written new pending left refusal.ReadFault h d = absurd d
 drain_failed names (Some i) (Some r) s old written new pending left refusal.Usage h d = absurd d
@@ -148,7 +148,7 @@ pub turn_failed : (names : List (List ℕ)) (input rest behind : Option (List �
 turn_failed names None rest behind s t old written pending left f h u = tt
 turn_failed names (Some i) None behind s t old written pending left f h u = absurd h.known
 turn_failed names (Some i) (Some r) None s t old written pending left f h u = absurd u
-turn_failed names (Some i) (Some r) (Some b) s t old written pending left (refusal.NotPlain n) h u = all_of names i r s old written pending left (at_line n) h.known u.0 u.1
+turn_failed names (Some i) (Some r) (Some b) s t old written pending left (refusal.BadLine n fault) h u = all_of names i r s old written pending left (at_line n fault) h.known u.0 u.1
 turn_failed names (Some i) (Some r) (Some b) s t old written pending left refusal.InputTooLong h u = all_of names i r s old written pending left at_limit h.known u.0 u.1
 turn_failed names (Some i) (Some r) (Some b) s t old written pending left refusal.ReadFault h u =
     let k = h.known in
@@ -172,7 +172,7 @@ pub drained_extends : (a b c : Option (List ℕ)) (pending left : List ℕ) → 
 drained_extends a b c pending left x d = extends-trans a b c x d.1
 
 pub still_extends : (a b : Option (List ℕ)) (f : Refusal) → Extends a b → StillExtends a b (Err f)
-still_extends a b (refusal.NotPlain n) x = x
+still_extends a b (refusal.BadLine n fault) x = x
 still_extends a b refusal.InputTooLong x = x
 still_extends a b refusal.ReadFault x = x
 still_extends a b refusal.WriteFault x = tt
@@ -183,7 +183,7 @@ still_extends a b refusal.BadPath x = tt
 -- a refused turn isn't a refused write
 pub no_write_fault : (before now : ℕ) (f : Refusal) → before ≤ now → IsOfTurn (Err f) → HasCauseAt before now (IsErrOf {T = Unit {0}} (Err f) refusal.WriteFault)
 no_write_fault before now refusal.WriteFault le t = absurd t
-no_write_fault before now (refusal.NotPlain n) le t = record { later = le; cause = λ e. cc }
+no_write_fault before now (refusal.BadLine n fault) le t = record { later = le; cause = λ e. cc }
 no_write_fault before now refusal.InputTooLong le t = record { later = le; cause = λ e. cc }
 no_write_fault before now refusal.ReadFault le t = record { later = le; cause = λ e. cc }
 no_write_fault before now refusal.NoMemory le t = record { later = le; cause = λ e. cc }
@@ -191,7 +191,7 @@ no_write_fault before now refusal.Usage le t = absurd t
 no_write_fault before now refusal.BadPath le t = absurd t
 
 pub of_scan : (f : Refusal) → IsOfTurn (Err f) → IsOfScan (Err f)
-of_scan (refusal.NotPlain n) t = tt
+of_scan (refusal.BadLine n fault) t = tt
 of_scan refusal.InputTooLong t = tt
 of_scan refusal.ReadFault t = tt
 of_scan refusal.WriteFault t = tt
@@ -200,7 +200,7 @@ of_scan refusal.Usage t = absurd t
 of_scan refusal.BadPath t = absurd t
 
 pub of_drain : (old new : Option (List ℕ)) (pending left : List ℕ) (f : Refusal) → DrainsSome old new pending left (Err f) → IsOfScan (Err f)
-of_drain old new pending left (refusal.NotPlain n) d = tt
+of_drain old new pending left (refusal.BadLine n fault) d = tt
 of_drain old new pending left refusal.InputTooLong d = tt
 of_drain old new pending left refusal.ReadFault d = tt
 of_drain old new pending left refusal.WriteFault d = tt
@@ -218,7 +218,7 @@ all_cut names input ending old written new pending x h p =
 gathered_cut : (names : List (List ℕ)) (input : List ℕ) (rest old written new : Option (List ℕ)) (pending : List ℕ) (done : Result (Unit {0}) Refusal) → Gathers names input rest old written pending done → StillExtends old written done → cuts_off done ≡ false
     → AppendsPrefix written new pending → AnswersPrefix names input old new
 gathered_cut names input rest old written new pending (Ok u) h x e p = all_cut names input at_end old written new pending x h p
-gathered_cut names input rest old written new pending (Err (refusal.NotPlain n)) h x e p = all_cut names input (at_line n) old written new pending x h p
+gathered_cut names input rest old written new pending (Err (refusal.BadLine n fault)) h x e p = all_cut names input (at_line n fault) old written new pending x h p
 gathered_cut names input rest old written new pending (Err refusal.InputTooLong) h x e p = all_cut names input at_limit old written new pending x h p
 gathered_cut names input rest old written new pending (Err refusal.ReadFault) h x e p =
     let w = walked (lines_of h.room (h.held ++ h.rest)) h.number in (
@@ -237,7 +237,7 @@ pub scan_cut : (names : List (List ℕ)) (input rest old written new : Option (L
 scan_cut names None rest old written new pending left done f h x e d = tt
 scan_cut names (Some i) rest old written new pending left done refusal.WriteFault h x e d = gathered_cut names i rest old written new pending done h x e d
 scan_cut names (Some i) rest old written new pending left done refusal.NoMemory h x e d = gathered_cut names i rest old written new pending done h x e d
-scan_cut names (Some i) rest old written new pending left done (refusal.NotPlain n) h x e d = absurd d
+scan_cut names (Some i) rest old written new pending left done (refusal.BadLine n fault) h x e d = absurd d
 scan_cut names (Some i) rest old written new pending left done refusal.InputTooLong h x e d = absurd d
 scan_cut names (Some i) rest old written new pending left done refusal.ReadFault h x e d = absurd d
 scan_cut names (Some i) rest old written new pending left done refusal.Usage h x e d = absurd d
@@ -257,7 +257,7 @@ pub scan_done : (names : List (List ℕ)) (input rest old written new : Option (
     → cuts_off done ≡ false → Drains written new pending left (Ok tt) → Scans names input rest old new done
 scan_done names None rest old written new pending left done h e d = tt
 scan_done names (Some i) rest old written new pending left (Ok u) h e d = (h.0, h.1, written_all old written new pending _ h.2 d.0)
-scan_done names (Some i) rest old written new pending left (Err (refusal.NotPlain n)) h e d = (h.0, h.1, written_all old written new pending _ h.2 d.0)
+scan_done names (Some i) rest old written new pending left (Err (refusal.BadLine n fault)) h e d = (h.0, h.1, written_all old written new pending _ h.2 d.0)
 scan_done names (Some i) rest old written new pending left (Err refusal.InputTooLong) h e d = (h.0, h.1, written_all old written new pending _ h.2 d.0)
 scan_done names (Some i) rest old written new pending left (Err refusal.ReadFault) h e d = record {
   documents = h.documents;

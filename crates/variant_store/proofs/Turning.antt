@@ -3,10 +3,11 @@ use Rattle.std.proofs.Common.{◌≡◌, ℕ, List, [], ◌∷◌, ◌++◌, ref
 use Rattle.json_tree.specs.Json.{Json}
 use Rattle.json_lines.specs.Next.{State, ComesFrom, lines_ahead, found}
 use Rattle.json_lines.specs.declared.line_reader.Next.TheVariants as next
-use Rattle.json_lines.specs.declared.line_reader.LineFault.TheVariants as fault
-use Rattle.exact_json.specs.Documents.{Ending, at_end, at_line, at_limit, Verdict, blank, document, refused, Judges, Walks}
+use Rattle.json_lines.specs.declared.line_reader.LineFault.TheVariants as reading
+use Rattle.exact_json.specs.Documents.{Ending, at_end, at_line, at_limit, Verdict, blank, document, faulty, Judges, Walks}
 use Rattle.json_lines.specs.Cut.{Lines, none, last, over, line, Found, found_end, found_line, found_long, found_over, first_line, is_long, is_blank}
-use Rattle.exact_json.proofs.Walks.{walk_document, walk_refused, walk_long, walk_end, walk_over, walked, walks_once, judge}
+use Rattle.exact_json.proofs.Walks.{walk_document, walk_faulty, walk_long, walk_end, walk_over, walked, walks_once, judge}
+use Rattle.exact_json.specs.declared.fault.DocFault.TheVariants.{LineTooLong}
 use Rattle.variant_store.specs.Gathered.{GathersLine, Turns}
 use Rattle.variant_store.specs.declared.refusal.Refusal.{Refusal}
 use Rattle.variant_store.specs.declared.refusal.Refusal.TheVariants as refusal
@@ -17,12 +18,12 @@ turn_ended names None behind s t p c = tt
 turn_ended names (Some rest) None s t p c = absurd c
 turn_ended names (Some rest) (Some behind) s t p c = (walk_end (lines_ahead s rest) s.number c.0, refl)
 
-pub turn_long : (names : List (List ℕ)) (rest behind : Option (List ℕ)) (s t : State) (p : List ℕ) (n : ℕ) → ComesFrom rest behind s t (Ok (next.TooLong n)) → Turns names rest behind s t p p (Err (refusal.NotPlain n))
+pub turn_long : (names : List (List ℕ)) (rest behind : Option (List ℕ)) (s t : State) (p : List ℕ) (n : ℕ) → ComesFrom rest behind s t (Ok (next.TooLong n)) → Turns names rest behind s t p p (Err (refusal.BadLine n LineTooLong))
 turn_long names None behind s t p n c = tt
 turn_long names (Some rest) None s t p n c = absurd c
 turn_long names (Some rest) (Some behind) s t p n c = (walk_long (lines_ahead s rest) s.number n c, refl)
 
-pub turn_over : (names : List (List ℕ)) (rest behind : Option (List ℕ)) (s t : State) (p : List ℕ) → ComesFrom rest behind s t (Err fault.InputTooLong) → Turns names rest behind s t p p (Err refusal.InputTooLong)
+pub turn_over : (names : List (List ℕ)) (rest behind : Option (List ℕ)) (s t : State) (p : List ℕ) → ComesFrom rest behind s t (Err reading.InputTooLong) → Turns names rest behind s t p p (Err refusal.InputTooLong)
 turn_over names None behind s t p c = tt
 turn_over names (Some rest) None s t p c = absurd c
 turn_over names (Some rest) (Some behind) s t p c = (walk_over (lines_ahead s rest) s.number c, refl)
@@ -38,8 +39,8 @@ pub turn_refused : (names : List (List ℕ)) (rest behind : Option (List ℕ)) (
     → GathersLine names n bytes p q (Err f) → Turns names rest behind s t p q (Err f)
 turn_refused names None behind s t p q n bytes f c g = tt
 turn_refused names (Some rest) None s t p q n bytes f c g = absurd c
-turn_refused names (Some rest) (Some behind) s t p q n bytes (refusal.NotPlain m) c g =
-    (subst (λ (k : ℕ). Walks (lines_ahead s rest) s.number [] (at_line k)) (sym g.0) (walk_refused (lines_ahead s rest) s.number n bytes (lines_ahead t behind) c.0 g.1), g.2)
+turn_refused names (Some rest) (Some behind) s t p q n bytes (refusal.BadLine m fault) c g =
+    (subst (λ (k : ℕ). Walks (lines_ahead s rest) s.number [] (at_line k fault)) (sym g.0) (walk_faulty (lines_ahead s rest) s.number n bytes (lines_ahead t behind) fault c.0 g.1), g.2)
 turn_refused names (Some rest) (Some behind) s t p q n bytes refusal.NoMemory c g = g
 turn_refused names (Some rest) (Some behind) s t p q n bytes refusal.InputTooLong c g = absurd g
 turn_refused names (Some rest) (Some behind) s t p q n bytes refusal.ReadFault c g = absurd g
@@ -78,7 +79,7 @@ as_walked ls ks n m more known ending end w v x =
 same_walks : (ls ks : Lines) (n m : ℕ) (more : List Json) (ending : Ending) (first : Found) → first_line n ls ≡ first → first_line m ks ≡ first → Walks ls n more ending → Walks ks m more ending
 same_walks ls ks n m more ending found_end e f w = as_walked ls ks n m more [] ending at_end w (walk_end ls n e) (walk_end ks m f)
 same_walks ls ks n m more ending found_over e f w = as_walked ls ks n m more [] ending at_limit w (walk_over ls n e) (walk_over ks m f)
-same_walks ls ks n m more ending (found_long k) e f w = as_walked ls ks n m more [] ending (at_line k) w (walk_long ls n k e) (walk_long ks m k f)
+same_walks ls ks n m more ending (found_long k) e f w = as_walked ls ks n m more [] ending (at_line k LineTooLong) w (walk_long ls n k e) (walk_long ks m k f)
 same_walks ls ks n m more ending (found_line k l behind) e f w = by (judge l)
   where
     by : (v : Verdict) × Judges l v → Walks ks m more ending
@@ -87,9 +88,9 @@ same_walks ls ks n m more ending (found_line k l behind) e f w = by (judge l)
         let rest = walked behind k in
         as_walked ls ks n m more (json ∷ rest.documents) ending rest.ending w
         (walk_document ls n k l behind json rest.documents rest.ending e j.1 rest.walks) (walk_document ks m k l behind json rest.documents rest.ending f j.1 rest.walks)
-    by (refused, j) = as_walked ls ks n m more [] ending (at_line k) w (walk_refused ls n k l behind e j.1) (walk_refused ks m k l behind f j.1)
+    by (faulty fault, j) = as_walked ls ks n m more [] ending (at_line k fault) w (walk_faulty ls n k l behind fault e j.1) (walk_faulty ks m k l behind fault f j.1)
 
-pub turn_unread : (names : List (List ℕ)) (rest behind : Option (List ℕ)) (s t : State) (p : List ℕ) → ComesFrom rest behind s t (Err fault.ReadFault) → Turns names rest behind s t p p (Err refusal.ReadFault)
+pub turn_unread : (names : List (List ℕ)) (rest behind : Option (List ℕ)) (s t : State) (p : List ℕ) → ComesFrom rest behind s t (Err reading.ReadFault) → Turns names rest behind s t p p (Err refusal.ReadFault)
 turn_unread names None behind s t p c = tt
 turn_unread names (Some rest) None s t p c = absurd c
 turn_unread names (Some rest) (Some behind) s t p c =

@@ -4,7 +4,7 @@ use Rattle.std.specs.Io.KnownBytes.{Appends, Keeps, append_known}
 use Rattle.outside.specs.Devices.{AppendsPrefix}
 use Rattle.json_tree.specs.Json.{Json}
 use Rattle.json_lines.specs.Next.{State, nothing, lines_ahead}
-use Rattle.exact_json.specs.Meaning.{Spells}
+use Rattle.exact_json.specs.Meaning.{Spells, IsFirstFault}
 use Rattle.exact_json.specs.Documents.{Ending, at_end, at_line, at_limit, Walks, HasDocuments}
 use Rattle.variant_store.specs.Answer.{line_of, answer_of}
 use Rattle.variant_store.specs.Scan.{AnswersAll, AnswersRead, AnswersPrefix}
@@ -26,7 +26,7 @@ abbrev pub Drains : Option (List ℕ) → Option (List ℕ) → List ℕ → Lis
 Drains old new pending left (Ok _) = Appends old new pending × (left ≡ [])
 Drains old new pending left (Err refusal.WriteFault) = AppendsPrefix old new pending
 Drains old new pending left (Err refusal.NoMemory) = AppendsPrefix old new pending
-Drains old new pending left (Err (refusal.NotPlain n)) = ⊥
+Drains old new pending left (Err (refusal.BadLine n fault)) = ⊥
 Drains old new pending left (Err refusal.InputTooLong) = ⊥
 Drains old new pending left (Err refusal.ReadFault) = ⊥
 Drains old new pending left (Err refusal.Usage) = ⊥
@@ -37,7 +37,7 @@ abbrev pub DrainsSome : Option (List ℕ) → Option (List ℕ) → List ℕ →
 DrainsSome old new pending left (Ok _) = Keeps (gathered old pending) (gathered new left) × Extends old new
 DrainsSome old new pending left (Err refusal.WriteFault) = AppendsPrefix old new pending
 DrainsSome old new pending left (Err refusal.NoMemory) = AppendsPrefix old new pending
-DrainsSome old new pending left (Err (refusal.NotPlain n)) = ⊥
+DrainsSome old new pending left (Err (refusal.BadLine n fault)) = ⊥
 DrainsSome old new pending left (Err refusal.InputTooLong) = ⊥
 DrainsSome old new pending left (Err refusal.ReadFault) = ⊥
 DrainsSome old new pending left (Err refusal.Usage) = ⊥
@@ -46,7 +46,7 @@ DrainsSome old new pending left (Err refusal.BadPath) = ⊥
 -- a document's line was gathered, or the line was refused and nothing was gathered
 abbrev pub GathersLine : List (List ℕ) → ℕ → List ℕ → List ℕ → List ℕ → Result (Unit {0}) Refusal → Type 0
 GathersLine names n line old new (Ok _) = (json : Json) × Spells line json × (new ≡ old ++ line_of names json)
-GathersLine names n line old new (Err (refusal.NotPlain m)) = (m ≡ n) × ((json : Json) → Spells line json → ⊥) × (new ≡ old)
+GathersLine names n line old new (Err (refusal.BadLine m fault)) = (m ≡ n) × IsFirstFault line fault × (new ≡ old)
 GathersLine names n line old new (Err refusal.NoMemory) = new ≡ old
 GathersLine names n line old new (Err refusal.InputTooLong) = ⊥
 GathersLine names n line old new (Err refusal.ReadFault) = ⊥
@@ -60,7 +60,7 @@ abbrev pub TurnsAt : List (List ℕ) → List ℕ → List ℕ → State → Sta
 TurnsAt names rest behind s t old new (Ok More) = (json : Json) × (new ≡ old ++ line_of names json)
     × ((more : List Json) (ending : Ending) → Walks (lines_ahead t behind) t.number more ending → Walks (lines_ahead s rest) s.number (json ∷ more) ending)
 TurnsAt names rest behind s t old new (Ok Ended) = Walks (lines_ahead s rest) s.number [] at_end × (new ≡ old)
-TurnsAt names rest behind s t old new (Err (refusal.NotPlain n)) = Walks (lines_ahead s rest) s.number [] (at_line n) × (new ≡ old)
+TurnsAt names rest behind s t old new (Err (refusal.BadLine n fault)) = Walks (lines_ahead s rest) s.number [] (at_line n fault) × (new ≡ old)
 TurnsAt names rest behind s t old new (Err refusal.InputTooLong) = Walks (lines_ahead s rest) s.number [] at_limit × (new ≡ old)
 TurnsAt names rest behind s t old new (Err refusal.ReadFault) = (new ≡ old) × (Contains t.held 10 → ⊥)
     × ((more : List Json) (ending : Ending) → Walks (lines_ahead t behind) t.number more ending → Walks (lines_ahead s rest) s.number more ending)
@@ -72,7 +72,7 @@ TurnsAt names rest behind s t old new (Err refusal.BadPath) = ⊥
 -- no turn answers for the output or the words
 abbrev pub IsOfTurn : Result Turn Refusal → Type 0
 IsOfTurn (Ok turn) = Unit {0}
-IsOfTurn (Err (refusal.NotPlain n)) = Unit {0}
+IsOfTurn (Err (refusal.BadLine n fault)) = Unit {0}
 IsOfTurn (Err refusal.InputTooLong) = Unit {0}
 IsOfTurn (Err refusal.ReadFault) = Unit {0}
 IsOfTurn (Err refusal.NoMemory) = Unit {0}
@@ -113,7 +113,7 @@ pub record Stands (names : List (List ℕ)) (input rest : Option (List ℕ)) (st
 -- what a walk over the lines has gathered, by how it ends
 abbrev pub Gathers : List (List ℕ) → List ℕ → Option (List ℕ) → Option (List ℕ) → Option (List ℕ) → List ℕ → Result (Unit {0}) Refusal → Type 0
 Gathers names input left old new pending (Ok _) = AnswersAll names input at_end old (gathered new pending)
-Gathers names input left old new pending (Err (refusal.NotPlain n)) = AnswersAll names input (at_line n) old (gathered new pending)
+Gathers names input left old new pending (Err (refusal.BadLine n fault)) = AnswersAll names input (at_line n fault) old (gathered new pending)
 Gathers names input left old new pending (Err refusal.InputTooLong) = AnswersAll names input at_limit old (gathered new pending)
 Gathers names input left old new pending (Err refusal.ReadFault) = AnswersRead names input left old (gathered new pending)
 Gathers names input left old new pending (Err refusal.WriteFault) = AnswersPrefix names input old new
@@ -129,7 +129,7 @@ GathersKnown names (Some input) left old new pending result = Gathers names inpu
 -- what was known before stays, where no write was refused
 abbrev pub StillExtends : Option (List ℕ) → Option (List ℕ) → Result (Unit {0}) Refusal → Type 0
 StillExtends old new (Ok _) = Extends old new
-StillExtends old new (Err (refusal.NotPlain n)) = Extends old new
+StillExtends old new (Err (refusal.BadLine n fault)) = Extends old new
 StillExtends old new (Err refusal.InputTooLong) = Extends old new
 StillExtends old new (Err refusal.ReadFault) = Extends old new
 StillExtends old new (Err refusal.WriteFault) = Unit {0}
@@ -140,7 +140,7 @@ StillExtends old new (Err refusal.BadPath) = Unit {0}
 -- whether the output was cut off, so that nothing more is written
 abbrev pub cuts_off : Result (Unit {0}) Refusal → Bool
 cuts_off (Ok _) = false
-cuts_off (Err (refusal.NotPlain n)) = false
+cuts_off (Err (refusal.BadLine n fault)) = false
 cuts_off (Err refusal.InputTooLong) = false
 cuts_off (Err refusal.ReadFault) = false
 cuts_off (Err refusal.WriteFault) = true
@@ -151,7 +151,7 @@ cuts_off (Err refusal.BadPath) = true
 -- no scan answers for the words
 abbrev pub IsOfScan : Result (Unit {0}) Refusal → Type 0
 IsOfScan (Ok _) = Unit {0}
-IsOfScan (Err (refusal.NotPlain n)) = Unit {0}
+IsOfScan (Err (refusal.BadLine n fault)) = Unit {0}
 IsOfScan (Err refusal.InputTooLong) = Unit {0}
 IsOfScan (Err refusal.ReadFault) = Unit {0}
 IsOfScan (Err refusal.WriteFault) = Unit {0}

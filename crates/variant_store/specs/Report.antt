@@ -2,13 +2,14 @@
 use Rattle.std.specs.Prelude.{◌≡◌, ◌⊎◌, ℕ, List, [], ◌∷◌, ◌++◌, Option, codes, decimal}
 use Rattle.std.specs.Io.KnownBytes.{Appends}
 use Rattle.outside.specs.Devices.{Rose, AppendsPrefix}
+use Rattle.exact_json.specs.Faults.{name_of}
 use Rattle.variant_store.specs.declared.refusal.Refusal.{Refusal}
-use Rattle.variant_store.specs.declared.refusal.Refusal.TheVariants.{Usage, BadPath, NotPlain, InputTooLong, ReadFault, WriteFault, NoMemory}
+use Rattle.variant_store.specs.declared.refusal.Refusal.TheVariants.{Usage, BadPath, BadLine, InputTooLong, ReadFault, WriteFault, NoMemory}
 
 abbrev pub status_of : Refusal → ℕ
 status_of Usage = 2
 status_of BadPath = 2
-status_of (NotPlain line) = 3
+status_of (BadLine line fault) = 3
 status_of InputTooLong = 3
 status_of ReadFault = 5
 status_of WriteFault = 6
@@ -18,7 +19,7 @@ status_of NoMemory = 7
 abbrev pub message_of : Refusal → List ℕ
 message_of Usage = codes "vstore: usage\n"
 message_of BadPath = codes "vstore: bad path\n"
-message_of (NotPlain line) = codes "vstore: line " ++ decimal line ++ codes ": NotPlain\n"
+message_of (BadLine line fault) = codes "vstore: line " ++ decimal line ++ codes ": " ++ name_of fault ++ codes "\n"
 message_of InputTooLong = codes "vstore: input too long\n"
 message_of ReadFault = codes "vstore: read fault\n"
 message_of WriteFault = codes "vstore: write fault\n"

@@ -33,7 +33,7 @@ AnswersPrefix names input old new = (documents : List Json) × (ending : Ending)
 -- by the answer of a scan over known input, of which `left` is left
 abbrev pub Writes : List (List ℕ) → List ℕ → Option (List ℕ) → Option (List ℕ) → Option (List ℕ) → Result (Unit {0}) Refusal → Type 0
 Writes names input left old new (Ok _) = AnswersAll names input at_end old new
-Writes names input left old new (Err (refusal.NotPlain n)) = AnswersAll names input (at_line n) old new
+Writes names input left old new (Err (refusal.BadLine n fault)) = AnswersAll names input (at_line n fault) old new
 Writes names input left old new (Err refusal.InputTooLong) = AnswersAll names input at_limit old new
 Writes names input left old new (Err refusal.ReadFault) = AnswersRead names input left old new
 Writes names input left old new (Err refusal.WriteFault) = AnswersPrefix names input old new

@@ -19,7 +19,7 @@ abbrev pub Runs : List (List ℕ) → Option (List ℕ) → Option (List ℕ) �
 Runs words input left old new Untouched (Ok u) = RunsScan words input left old new (Ok u)
 Runs words input left old new Untouched (Err refusal.Usage) = AskNothing words × Untouched
 Runs words input left old new Untouched (Err refusal.BadPath) = AskBadPath words × Untouched
-Runs words input left old new Untouched (Err (refusal.NotPlain n)) = RunsScan words input left old new (Err (refusal.NotPlain n))
+Runs words input left old new Untouched (Err (refusal.BadLine n fault)) = RunsScan words input left old new (Err (refusal.BadLine n fault))
 Runs words input left old new Untouched (Err refusal.InputTooLong) = RunsScan words input left old new (Err refusal.InputTooLong)
 Runs words input left old new Untouched (Err refusal.ReadFault) = RunsScan words input left old new (Err refusal.ReadFault)
 Runs words input left old new Untouched (Err refusal.WriteFault) = RunsScan words input left old new (Err refusal.WriteFault)

@@ -3,6 +3,7 @@
 ghost use Rattle.std.specs.Prelude.{◌≡◌, IfOk, string_bytes};
 ghost use Rattle.variant_store.specs.Report.{status_of, message_of, IsReported};
 
+use exact_json::DocFault;
 use outside::{Sink, SinkError, write_all};
 use std::alloc::{AllocError, Global};
 
@@ -13,8 +14,8 @@ pub enum Refusal {
     Usage,
     /// The path isn't in its grammar.
     BadPath,
-    /// A line that isn't blank spells nothing that is read for now. Lines are counted from 1.
-    NotPlain { line: u64 },
+    /// A line that isn't blank has a fault. Lines are counted from 1.
+    BadLine { line: u64, fault: DocFault },
     /// The input has more than 2^40 bytes.
     InputTooLong,
     /// A read failed.
@@ -25,11 +26,14 @@ pub enum Refusal {
     NoMemory,
 }
 
-/// The line of a line that isn't plain.
-fn not_plain_message(alloc: Global, line: u64) -> Result<String, AllocError>
-    ensures { IfOk result (λ message. string_bytes message ≡ message_of (Refusal.NotPlain line)) }
+/// The line for a line that has a fault.
+fn bad_line_message(alloc: Global, line: u64, fault: DocFault) -> Result<String, AllocError>
+    ensures { IfOk result (λ message. string_bytes message ≡ message_of (Refusal.BadLine line fault)) }
 {
-    format!(in alloc; "vstore: line {line}: NotPlain\n")
+    let mut message = format!(in alloc; "vstore: line {line}: ")?;
+    message.push_str(fault.name())?;
+    message.push_str("\n")?;
+    Ok(message)
 }
 
 impl Refusal {
@@ -39,7 +43,7 @@ impl Refusal {
     {
         match self {
             Refusal::Usage | Refusal::BadPath => 2,
-            Refusal::NotPlain { .. } | Refusal::InputTooLong => 3,
+            Refusal::BadLine { .. } | Refusal::InputTooLong => 3,
             Refusal::ReadFault => 5,
             Refusal::WriteFault => 6,
             Refusal::NoMemory => 7,
@@ -53,7 +57,7 @@ impl Refusal {
         match self {
             Refusal::Usage => String::from_str(alloc, "vstore: usage\n"),
             Refusal::BadPath => String::from_str(alloc, "vstore: bad path\n"),
-            Refusal::NotPlain { line } => not_plain_message(alloc, line),
+            Refusal::BadLine { line, fault } => bad_line_message(alloc, line, fault),
             Refusal::InputTooLong => String::from_str(alloc, "vstore: input too long\n"),
             Refusal::ReadFault => String::from_str(alloc, "vstore: read fault\n"),
             Refusal::WriteFault => String::from_str(alloc, "vstore: write fault\n"),

@@ -59,23 +59,23 @@ fn drain_piece<O: Sink>(pending: &mut Vec<u8>, out: &mut O) -> Result<(), Refusa
     drain(pending, out)
 }
 
-/// Gathers the printed line of a document. After an `Err` nothing was gathered.
+/// Gathers the printed line of the document in line `line`. After an `Err` nothing was gathered.
 fn gather(
     alloc: Global,
     path: &Path,
-    number: u64,
-    line: &[u8],
+    line: u64,
+    bytes: &[u8],
     pending: &mut Vec<u8>,
 ) -> Result<(), Refusal>
-    ensures { GathersLine path.now.steps.items number line.now pending.old.items pending.new.items result }
+    ensures { GathersLine path.now.steps.items line bytes.now pending.old.items pending.new.items result }
 {
-    match read_line(alloc, line) {
+    match read_line(alloc, bytes) {
         Ok(tree) => match print_line(pending, path, &tree) {
             Ok(()) => Ok(()),
             Err(NoMemory) => Err(Refusal::NoMemory),
         },
-        Err(DocFault::NotPlain) => Err(Refusal::NotPlain { line: number }),
         Err(DocFault::NoMemory) => Err(Refusal::NoMemory),
+        Err(fault) => Err(Refusal::BadLine { line, fault }),
     }
 }
 
@@ -100,7 +100,10 @@ fn take_turn<I: Source>(
                 Err(refusal) => Err(refusal),
             }
         }
-        Ok(Next::TooLong { number }) => Err(Refusal::NotPlain { line: number }),
+        Ok(Next::TooLong { number }) => Err(Refusal::BadLine {
+            line: number,
+            fault: DocFault::LineTooLong,
+        }),
         Ok(Next::End) => Ok(Turn::Ended),
         Err(LineFault::InputTooLong) => Err(Refusal::InputTooLong),
         Err(LineFault::ReadFault) => Err(Refusal::ReadFault),
@@ -146,7 +149,7 @@ fn cuts_off(done: Result<(), Refusal>) -> bool
 {
     match done {
         Ok(()) => false,
-        Err(Refusal::NotPlain { .. } | Refusal::InputTooLong | Refusal::ReadFault) => false,
+        Err(Refusal::BadLine { .. } | Refusal::InputTooLong | Refusal::ReadFault) => false,
         Err(Refusal::WriteFault | Refusal::NoMemory | Refusal::Usage | Refusal::BadPath) => true,
     }
 }

@@ -41,7 +41,7 @@ fn run<I: Source, O: Sink>(
 /// | 0 | none | the job was done, and the input was read to its end |
 /// | 2 | `vstore: usage` | the words have no such command |
 /// | 2 | `vstore: bad path` | the path isn't in its grammar |
-/// | 3 | `vstore: line N: NotPlain` | line N is the first that isn't admitted; all lines before it are answered |
+/// | 3 | `vstore: line N: FAULT` | line N is the first that has a fault ([`DocFault`]); all lines before it are answered |
 /// | 3 | `vstore: input too long` | more than 2^40 bytes came |
 /// | 5 | `vstore: read fault` | a read failed; the lines before are answered |
 /// | 6 | `vstore: write fault` | a write to `out` failed |

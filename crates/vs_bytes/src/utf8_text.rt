@@ -1,11 +1,12 @@
 //! UTF-8 text.
 
-ghost use Rattle.std.specs.Prelude.{◌≡◌, ◌==◌, IfOk, string_bytes};
+ghost use Rattle.std.specs.Prelude.{◌≡◌, ◌==◌, IfOk, SomeIff, string_bytes};
 ghost use Rattle.std.proofs.Common.{rules};
 ghost use Rattle.std.specs.Cmp.{partial_order_from_own_ties};
 ghost use Rattle.std.specs.Cmp.Rules.{comparing};
 ghost use Rattle.std.specs.Cmp.Lexicographic.{slice_cmp, pointwise};
 ghost use Rattle.std.specs.Ordering.{nat_cmp, as_partial_cmp};
+ghost use Rattle.std.specs.Str.{IsUtf8};
 
 use crate::memory::NoMemory;
 use std::alloc::Global;
@@ -41,6 +42,16 @@ impl Text {
         ensures { result ≡ string_bytes text }
     {
         Text { text }
+    }
+
+    /// The text of bytes, which it takes over, or `None` where they aren't UTF-8.
+    pub fn from_utf8(bytes: Vec<u8>) -> Option<Text>
+        ensures { SomeIff result (IsUtf8 bytes.items) bytes.items }
+    {
+        match String::from_utf8(bytes) {
+            Ok(text) => Some(Text { text }),
+            Err(_) => None,
+        }
     }
 
     /// The text in place.

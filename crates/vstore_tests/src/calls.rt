@@ -1,9 +1,12 @@
 use exact_json::{Lines, Next, read_line};
+use exact_num::{NumFault, read_number};
 use json_lines::LineFault;
+use json_strings::{StringFault, read_string};
 use json_tree::{
     Items, Members, MembersFault, Number, Tree, copy, depth, print, print_text, same, text_len,
 };
 use outside::{MemSink, MemSource, Sink, Source, StdSink, StdSource, write_all};
+use std::cmp::Ordering;
 use std::test::Fail;
 use vs_bytes::{Bytes, Text};
 
@@ -22,7 +25,7 @@ fn texts_and_bytes_hold_what_they_were_made_of(rt: HostRuntime) -> Result<(), Fa
 fn a_tree_is_made_printed_measured_and_copied(rt: HostRuntime) -> Result<(), Fail> {
     let alloc = rt.alloc();
     let mut items = Items::new(alloc);
-    items.push(Tree::Num(Number { whole: -5 }))?;
+    items.push(Tree::Num(Number::of(-5, 0)))?;
     items.push(Tree::Bool(true))?;
     let mut pairs = Vec::new(alloc);
     pairs.push((Text::from_str(alloc, "b")?, Tree::Array(items)))?;
@@ -136,5 +139,55 @@ fn std_streams_pass_bytes_on(rt: HostRuntime) -> Result<(), Fail> {
     assert_eq!(&rt; into.as_slice(), b"ab".as_slice());
     let mut sink = StdSink::new(Vec::new(rt.alloc()));
     assert_eq!(&rt; sink.write(b"xyz")?, 3);
+    Ok(())
+}
+
+#[test]
+fn numbers_are_read_compared_and_fitted_by_value(rt: HostRuntime) -> Result<(), Fail> {
+    // 10^38 - 1 and 1 / 10^38
+    let most = Number::of(99_999_999_999_999_999_999_999_999_999_999_999_999, 0);
+    let least = Number::of(1, 38);
+    assert!(&rt; exact_num::cmp(most, least) == Ordering::Greater);
+    assert!(&rt; exact_num::cmp(Number::of(150, 2), Number::of(15, 1)) == Ordering::Equal);
+    assert_eq!(&rt; exact_num::fits(Number::of(15, 1), 9, 2), Some(150));
+    assert_eq!(&rt; exact_num::fits(Number::of(1555, 3), 9, 2), None);
+    assert_eq!(&rt; exact_num::whole(Number::of(-70, 1)), Some(-7));
+    assert_eq!(&rt; exact_num::whole(Number::of(71, 1)), None);
+    assert!(&rt; matches!(read_number(b"1."), Err(NumFault::NotNumber)));
+    assert!(&rt; matches!(read_number(b"1e38"), Err(NumFault::TooWide)));
+    let Ok(number) = read_number(b"-12.500e1") else {
+        assert!(&rt; false, "the text is a number");
+        return Ok(());
+    };
+    let mut text = Vec::new(rt.alloc());
+    exact_num::print(&mut text, number)?;
+    exact_num::print(&mut text, least)?;
+    assert_eq!(&rt;
+        text.as_slice(),
+        b"-1250.00000000000000000000000000000000000001".as_slice()
+    );
+    assert_eq!(&rt; exact_num::text_len(number), 4);
+    assert_eq!(&rt; exact_num::text_len(least), 40);
+    Ok(())
+}
+
+#[test]
+fn a_string_is_read_from_its_place(rt: HostRuntime) -> Result<(), Fail> {
+    let alloc = rt.alloc();
+    let bytes = b"x\"a\\u00e9\"y";
+    match read_string(alloc, bytes, 1) {
+        Ok((text, place)) => {
+            assert_eq!(&rt; text.as_bytes(), b"a\xc3\xa9".as_slice());
+            assert_eq!(&rt; place, 10);
+        }
+        Err(_) => assert!(&rt; false, "a string begins there"),
+    }
+    assert!(&rt; matches!(read_string(alloc, bytes, 0), Err(StringFault::NotString)));
+    assert!(&rt;
+        matches!(
+            read_string(alloc, b"\"\\udc00\"", 0),
+            Err(StringFault::LoneSurrogate)
+        )
+    );
     Ok(())
 }

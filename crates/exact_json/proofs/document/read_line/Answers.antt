@@ -1,10 +1,15 @@
-use Rattle.std.proofs.Common.{arith}
+use Rattle.std.proofs.Common.{◌≤◌, length, sym, subst, arith, Result}
+use Rattle.json_tree.specs.Json.{Json}
 use Rattle.json_tree.specs.View.{view}
-use Rattle.exact_json.proofs.Answered.{answers, answers_ordered}
+use Rattle.exact_json.specs.Judging.{Gives}
+use Rattle.exact_json.specs.declared.fault.DocFault.{DocFault}
+use Rattle.exact_json.proofs.Judged.{answers, answers_ordered, judged_text_is}
 use Rattle.exact_json.proofs.document.read_line.Goals as goal
 
-pub returns-clause-exact : goal.returns-clause-exact
-returns-clause-exact c = answers view c.args.line.now c.read_document.result (omega arith) c.read_document.ensures.told
+pub returns-in-Ok-clause-exact : goal.returns-in-Ok-clause-exact
+returns-in-Ok-clause-exact c =
+    let short : length c.args.line.now ≤ 1048576 = omega arith in
+    answers view c.args.line.now c.read_text.result (subst (λ (j : Result Json DocFault). Gives view c.read_text.result j) (sym (judged_text_is c.args.line.now short c.in-Ok.ensures.cases.1)) c.read_text.ensures)
 
-pub returns-clause-ordered : goal.returns-clause-ordered
-returns-clause-ordered c = answers_ordered view c.args.line.now c.read_document.result (answers view c.args.line.now c.read_document.result (omega arith) c.read_document.ensures.told)
+pub returns-in-Ok-clause-ordered : goal.returns-in-Ok-clause-ordered
+returns-in-Ok-clause-ordered c = answers_ordered view c.args.line.now c.read_text.result (returns-in-Ok-clause-exact c)

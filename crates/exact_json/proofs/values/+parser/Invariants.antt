@@ -1,9 +1,10 @@
 use Rattle.std.proofs.Common.{◌≡◌, ◌+◌, ◌-◌, ◌*◌, ◌++◌, map}
 use Rattle.std.specs.Option.{option_map}
 use Rattle.json_tree.specs.View.{view, seen}
-use Rattle.json_grammar.specs.Reading.{value_at, elements_at, more_elements_at, all_entries_at, more_entries_at}
-use Rattle.exact_json.specs.Meaning.{more_pairs_in}
+use Rattle.json_grammar.specs.Reading.{value_at, elements_at, more_elements_at, entries_at, more_entries_at}
+use Rattle.exact_json.specs.Meaning.{joined, more_pairs_in, more_elements_flaws, more_entries_flaws}
 use Rattle.exact_json.specs.Parsing.{told_elements, told_entries, more_items_in}
+use Rattle.exact_json.specs.Shown.{shown}
 use Rattle.exact_json.proofs.values.+parser.Given as goal
 
 abbrev pub decreases-read_value : goal.decreases-read_value
@@ -26,8 +27,8 @@ decreases-read_entries l = 4 * l.depth + 3
 
 abbrev pub invariant-read_elements-loop-turn : goal.invariant-read_elements-loop-turn
 invariant-read_elements-loop-turn l =
-    told_elements (elements_at (value_at l.depth) l.text) ≡ option_map (λ p. (map view l.trees.items ++ more_items_in p.0, p.1)) (more_elements_at (value_at l.depth) (l.turn-end - l.turn) l.rest)
+    told_elements (shown l.fn.noted) (elements_at (value_at l.depth) l.text) ≡ option_map (λ p. (map view l.trees.items ++ more_items_in p.0, joined (shown l.noted) (more_elements_flaws p.0), p.1)) (more_elements_at (value_at l.depth) (l.turn-end - l.turn) l.rest)
 
 abbrev pub invariant-read_entries-loop-turn : goal.invariant-read_entries-loop-turn
 invariant-read_entries-loop-turn l =
-    told_entries (all_entries_at (value_at l.depth) l.text) ≡ option_map (λ p. (map seen l.pairs.items ++ more_pairs_in p.0, p.1)) (more_entries_at (value_at l.depth) (l.turn-end - l.turn) l.rest)
+    told_entries (shown l.fn.noted) (entries_at (value_at l.depth) l.text) ≡ option_map (λ p. (map seen l.pairs.items ++ more_pairs_in p.0, joined (shown l.noted) (more_entries_flaws p.0), p.1)) (more_entries_at (value_at l.depth) (l.turn-end - l.turn) l.rest)

@@ -1,0 +1,6 @@
+use Rattle.std.proofs.Common.{◌≡◌, drop}
+use Rattle.exact_num.specs.Spelling.{digits_value}
+use Rattle.exact_num.proofs.digit_runs.small_value.Given as goal
+
+abbrev pub invariant-loop-byte : goal.invariant-loop-byte
+invariant-loop-byte l = digits_value l.value (drop l.byte-index l.digits) ≡ digits_value l.before l.digits

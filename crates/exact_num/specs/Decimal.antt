@@ -1,0 +1,52 @@
+-- Exact decimals: integers over powers of ten.
+use Rattle.std.specs.Prelude.{◌≡◌, ◌==◌, ◌&&◌, nat_lt, nat_le, ℕ, zero, suc, ◌/◌, ◌%◌, ◌^◌, ◌<◌, ◌≤◌, Bool, cond, ℤ, pos, neg_ℤ, ◌*ℤ◌, unsigned_abs, Option, Some, None}
+use Rattle.std.specs.Ordering.{int_cmp}
+use Rattle.std.specs.declared.cmp.Ordering.{Ordering}
+
+-- the number unscaled / 10 ^ scale
+pub record Decimal : Type 0 where
+  pub unscaled : ℤ
+  pub scale : ℕ
+
+-- two decimals are one number
+abbrev pub IsSame : Decimal → Decimal → Type 0
+IsSame a b = a.unscaled *ℤ pos (10 ^ b.scale) ≡ b.unscaled *ℤ pos (10 ^ a.scale)
+
+-- their order as numbers
+abbrev pub order : Decimal → Decimal → Ordering
+order a b = int_cmp (a.unscaled *ℤ pos (10 ^ b.scale)) (b.unscaled *ℤ pos (10 ^ a.scale))
+
+-- what a Number is: 38 digits at most, and no zero at the end behind the point
+pub record IsNumber (d : Decimal) : Type 0 where
+  pub size : unsigned_abs d.unscaled < 10 ^ 38
+  pub places : d.scale ≤ 38
+  pub least : unsigned_abs d.unscaled % 10 ≡ 0 → d.scale ≡ 0
+
+-- some Number has the decimal's value
+abbrev pub IsAdmitted : Decimal → Type 0
+IsAdmitted d = (n : Decimal) × (IsNumber n × IsSame n d)
+
+-- There is one such Number at most, and it computes: zeros at the end are taken off as long as there
+-- are places behind the point.
+
+-- the integer of a sign and a size; there is no negative 0
+abbrev pub signed : Bool → ℕ → ℤ
+signed minus n = cond minus (neg_ℤ (pos n)) (pos n)
+
+-- n / 10 ^ places in least scale, as a pair of integer and scale
+unfoldable pub shortened : ℕ → ℕ → ℕ × ℕ
+shortened n zero = (n, zero)
+shortened n (suc places) = cond (n % 10 == 0) (shortened (n / 10) places) (n, suc places)
+
+-- the decimal of least scale
+abbrev pub least : Bool → ℕ → ℕ → Decimal
+least minus n places = record { unscaled = signed minus (shortened n places).0; scale = (shortened n places).1 }
+
+-- the decimal, if 38 digits and 38 places are enough for it
+abbrev pub admitted : Bool → ℕ → ℕ → Option Decimal
+admitted minus n places =
+    cond (nat_lt n (10 ^ 38) && nat_le places 38) (Some (record { unscaled = signed minus n; scale = places })) None
+
+-- the Number of the value n / 10 ^ places, or its negative
+abbrev pub numbered : Bool → ℕ → ℕ → Option Decimal
+numbered minus n places = admitted minus (shortened n places).0 (shortened n places).1

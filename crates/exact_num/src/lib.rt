@@ -1,0 +1,48 @@
+//! Exact decimal numbers: read from JSON texts, compared, printed and turned into integers, with no
+//! rounding anywhere.
+//!
+//! A `Number` is `unscaled / 10 ^ scale` with at most 38 digits and 38 places behind the point. Contracts
+//! see it as a `Decimal`, which has no bound, and what a text means is a `Decimal` too.
+//!
+//! | Module | What it holds |
+//! |---|---|
+//! | `number` | `Number`, in least scale, so that each value has one |
+//! | `fault` | `NumFault`: why a text has no number |
+//! | `reading` | `read_number`: any JSON number text |
+//! | `short_reading` | whole numbers of at most 18 digits, in one loop |
+//! | `exponent_reading`, `exponent` | the exponent, cut where it is out of reach |
+//! | `digit_runs` | runs of digits and their integers |
+//! | `significand` | digits of any count, without the zeros at their end |
+//! | `placing` | where the point of the digits goes |
+//! | `printing` | `print` |
+//! | `ordering` | `cmp`: the order of the values |
+//! | `fitting` | `fits` and `whole`: numbers as integers |
+//! | `power` | powers of ten |
+//! | `laws` | one value has one number, a text is spelled in one way, a printed number reads back |
+#![tactic(auto)]
+
+mod digit_runs;
+mod exponent;
+mod exponent_reading;
+mod fault;
+mod fitting;
+mod laws;
+mod number;
+mod ordering;
+mod placing;
+mod power;
+mod printing;
+mod reading;
+mod short_reading;
+mod significand;
+
+pub use fault::NumFault;
+pub use fitting::{fits, whole};
+pub use laws::{
+    one_number, parsing_is_complete, parsing_is_sound, printed_reads_back, reading_is_exact,
+    spelled_once,
+};
+pub use number::Number;
+pub use ordering::cmp;
+pub use printing::{print, text_len};
+pub use reading::read_number;

@@ -1,0 +1,25 @@
+//! The strings of JSON texts (RFC 8259, section 7): how they are written, what text they stand for, and
+//! their reading.
+//!
+//! A string is a list of pieces: a byte that stands for itself, an escape of two characters, or `\u`
+//! with four hexadecimal digits of either case. Its text is UTF-8; bytes that aren't make no string. A
+//! `\u` surrogate that isn't half of a pair adds nothing to the text, and is told beside it (section
+//! 8.2 leaves open what such a string means).
+//!
+//! | Module | What it holds |
+//! |---|---|
+//! | `reader` | `read_quoted`: the rest of a string; `read_string`: a string at a place; their faults |
+//! | `content` | what was read of a string that has escapes |
+//! | `escapes` | escapes, from behind their backslash on |
+//! | `runs` | the bytes in front that stand for themselves |
+//! | `laws` | what is written is read, and what is read is written |
+#![tactic(auto)]
+
+mod content;
+mod escapes;
+mod laws;
+mod reader;
+mod runs;
+
+pub use laws::{strings_are_complete, strings_are_one, strings_are_sound};
+pub use reader::{Quoted, QuotedFault, StringFault, read_quoted, read_string};

@@ -1,0 +1,132 @@
+//! Quoted strings (RFC 8259, section 7).
+
+ghost use Rattle.std.specs.Prelude.{◌≡◌, ◌<◌, ◌≤◌, ℕ, List, Bool, true, false, length, IfOk, IsErrOf};
+ghost use Rattle.json_strings.specs.Content.{plain_state, quote_from, if_utf8, only_utf8};
+ghost use Rattle.json_strings.specs.Places.{IsStringAt};
+ghost use Rattle.json_strings.specs.Reading.{quoted_at};
+ghost use Rattle.json_strings.specs.Shown.{quote};
+ghost use Rattle.json_strings.specs.Told.{Reads};
+ghost use Rattle.json_strings.specs.declared.reader.QuotedFault.TheVariants.{NoMemory as OutOfMemory};
+
+use crate::content::Content;
+use crate::runs::plain_len;
+use std::alloc::Global;
+use vs_bytes::{NoMemory, Text};
+
+/// Why no string was read.
+#[derive(Clone, Copy, PartialEq, Eq, Debug, Drop)]
+pub enum QuotedFault {
+    /// No string stands there.
+    NotString,
+    /// There was no memory for its text.
+    NoMemory,
+}
+
+/// Why no string was read at a place.
+#[derive(Clone, Copy, PartialEq, Eq, Debug, Drop)]
+pub enum StringFault {
+    /// No quoted string begins there.
+    NotString,
+    /// One does, and some surrogate in it has no partner.
+    LoneSurrogate,
+    /// There was no memory for its text.
+    NoMemory,
+}
+
+/// A string that was read from behind its opening quote on.
+#[derive(Drop)]
+pub struct Quoted<'a> {
+    /// Its text, to which a surrogate with no partner adds nothing.
+    pub text: Text,
+    /// Whether some surrogate has no partner.
+    pub lone: bool,
+    /// The bytes behind its closing quote.
+    pub rest: &'a [u8],
+}
+
+impl From<NoMemory> for QuotedFault {
+    ghost from_gives = { λ _ fault. fault ≡ OutOfMemory };
+
+    fn from(_error: NoMemory) -> QuotedFault {
+        QuotedFault::NoMemory
+    }
+}
+
+// A string of bytes that stand for themselves, behind which `rest` stands.
+fn read_plain<'a>(alloc: Global, run: &[u8], rest: &'a [u8]) -> Result<Quoted<'a>, QuotedFault>
+    ensures { Reads quote result (if_utf8 (run.now, false, rest.now)) }
+{
+    match std::str::from_utf8(run) {
+        Ok(text) => Ok(Quoted {
+            text: Text::from_str(alloc, text)?,
+            lone: false,
+            rest,
+        }),
+        Err(_) => Err(QuotedFault::NotString),
+    }
+}
+
+// The rest of a string that begins with bytes that stand for themselves.
+fn read_escaped<'a>(alloc: Global, run: &[u8], text: &'a [u8]) -> Result<Quoted<'a>, QuotedFault>
+    ensures { Reads quote result (only_utf8 (quote_from (plain_state run.now) text.now)) }
+{
+    let mut content = Content::begin(alloc, run)?;
+    let mut rest = text;
+    while let Some((first, behind)) = rest.split_first() {
+        match *first {
+            b'"' => return content.end(behind).ok_or(QuotedFault::NotString),
+            b'\\' => match content.escape(behind) {
+                Ok(after) => rest = after,
+                Err(fault) => return Err(fault),
+            },
+            _ => rest = content.run(rest)?,
+        }
+    }
+    Err(QuotedFault::NotString)
+}
+
+/// Reads the rest of a string, from behind its opening quote on.
+///
+/// A string whose text isn't UTF-8 is no string. One without escapes is copied once. Its fault is
+/// [`QuotedFault::NotString`] just where no string stands there.
+pub fn read_quoted<'a>(alloc: Global, text: &'a [u8]) -> Result<Quoted<'a>, QuotedFault>
+    ensures told { Reads quote result (quoted_at text.now) }
+    ensures shorter { IfOk result (λ quoted. length quoted.rest.now < length text.now) }
+{
+    let (run, behind) = text.split_at(plain_len(text));
+    let Some((first, rest)) = behind.split_first() else {
+        return Err(QuotedFault::NotString);
+    };
+    match *first {
+        b'"' => read_plain(alloc, run, rest),
+        b'\\' => read_escaped(alloc, run, behind),
+        _ => Err(QuotedFault::NotString),
+    }
+}
+
+/// Reads the quoted string that begins with its quote at `at`, and gives its text and the place behind
+/// its closing quote.
+pub fn read_string(alloc: Global, bytes: &[u8], at: usize) -> Result<(Text, usize), StringFault>
+    requires { at ≤ length bytes.now }
+    ensures text { IfOk result (λ read. IsStringAt bytes.now at read.1 read.0 false) }
+    ensures none { IsErrOf result StringFault.NotString → (after : ℕ) (text : List ℕ) (lone : Bool) → IsStringAt bytes.now at after text lone → ⊥ }
+    ensures lone { IsErrOf result StringFault.LoneSurrogate → (after : ℕ) × (text : List ℕ) × IsStringAt bytes.now at after text true }
+{
+    let (_, behind) = bytes.split_at(at);
+    let Some((first, text)) = behind.split_first() else {
+        return Err(StringFault::NotString);
+    };
+    if *first != b'"' {
+        return Err(StringFault::NotString);
+    }
+    match read_quoted(alloc, text) {
+        Ok(quoted) => {
+            if quoted.lone {
+                return Err(StringFault::LoneSurrogate);
+            }
+            Ok((quoted.text, bytes.len() - quoted.rest.len()))
+        }
+        Err(QuotedFault::NotString) => Err(StringFault::NotString),
+        Err(QuotedFault::NoMemory) => Err(StringFault::NoMemory),
+    }
+}

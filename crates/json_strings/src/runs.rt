@@ -1,0 +1,56 @@
+//! The bytes of a string that stand for themselves.
+
+ghost use Rattle.std.specs.Prelude.{◌≡◌, ℕ, ◌<◌, ◌≤◌, true, false, length, slice_index};
+ghost use Rattle.json_strings.specs.Reading.{is_plain};
+
+// So many bytes are tested at once, behind as many that are tested one by one: most strings are short.
+const BLOCK: usize = 16;
+
+/// How many bytes in front stand for themselves: those before the first quote, backslash or control
+/// byte.
+pub fn plain_len(text: &[u8]) -> usize
+    ensures within { result ≤ length text.now }
+    ensures plain { (k : ℕ) → k < result → is_plain (slice_index text.now k) ≡ true }
+    ensures ended { result < length text.now → is_plain (slice_index text.now result) ≡ false }
+{
+    let mut at = 0;
+    while at < text.len() && is_plain_byte(text[at]) {
+        at += 1;
+        if at % BLOCK == 0 {
+            at = past_blocks(text, at);
+        }
+    }
+    at
+}
+
+// The place behind the whole blocks from `from` on that stand for themselves.
+fn past_blocks(text: &[u8], from: usize) -> usize
+    requires { from ≤ length text.now }
+    ensures within { result ≤ length text.now }
+    ensures further { from ≤ result }
+    ensures plain { (k : ℕ) → from ≤ k → k < result → is_plain (slice_index text.now k) ≡ true }
+{
+    let mut at = from;
+    while text.len() - at >= BLOCK && is_plain_block(&text[at..at + BLOCK]) {
+        at += BLOCK;
+    }
+    at
+}
+
+// It tests every byte, whatever those before it are, so that it becomes vector code.
+fn is_plain_block(block: &[u8]) -> bool
+    ensures { result ≡ true → (k : ℕ) → k < length block.now → is_plain (slice_index block.now k) ≡ true }
+{
+    let mut plain = true;
+    for byte in block {
+        plain &= is_plain_byte(*byte);
+    }
+    plain
+}
+
+#[tactic(auto, unfolding(crate::specs::Reading::is_plain))]
+fn is_plain_byte(byte: u8) -> bool
+    ensures { result ≡ is_plain byte }
+{
+    (byte >= 0x20) & (byte != b'"') & (byte != b'\\')
+}
