@@ -7,6 +7,8 @@ SHAPE  numbers   objects of a few whole numbers, the path $.a in most of them
        records   small records: a number, a time, a nested user, a decimal, a list of texts
        long      one line, an array of such objects
        wide      one object with so many bytes of members
+       small     one line, an array of arrays of one value
+       deep      one line, an array of arrays that are nested 63 deep
 """
 import random
 import sys
@@ -48,6 +50,11 @@ def main():
         draw.shuffle(names)
         out.write(",".join(f'"n{n:06}":{n % 10}' for n in names))
         out.write("}\n")
+        return
+    if shape in ("small", "deep"):
+        depth = 1 if shape == "small" else 63
+        part = "[" * depth + "0" + "]" * depth
+        out.write("[" + ",".join([part] * (size // (len(part) + 1) - 1)) + "]\n")
         return
     make = {"numbers": numbers, "records": records}[shape]
     while done < size:

@@ -56,6 +56,16 @@ if command -v jq > /dev/null; then
     done
 fi
 
+# what one line of 1 MB takes: of records, of many members, and of arrays that are mostly brackets
+echo
+echo "| line of 1 MB | s | peak MB |"
+echo "|---|---|---|"
+for shape in long wide small deep; do
+    python3 "$here/generate.py" "$shape" 1040000 > "$work/in"
+    read -r ours memory < <(timed "$program" scan '$')
+    echo "| $shape | $ours | $((memory / 1000)).$((memory % 1000 / 100)) |"
+done
+
 if command -v valgrind > /dev/null; then
     echo
     echo "| input | bytes | instructions per byte |"

@@ -1,7 +1,7 @@
 -- How long a printed number is.
-use Rattle.std.proofs.Common.{◌≡◌, ◌==◌, ℕ, zero, suc, ◌+◌, ◌/◌, ◌%◌, ◌^◌, List, [], ◌∷◌, ◌++◌, Bool, true, false, cond, length, length-append, arith, refl, sym, ap, ◌∙◌, eq-eqb, eqb-true}
+use Rattle.std.proofs.Common.{◌≡◌, ◌==◌, ℕ, zero, suc, ◌+◌, ◌/◌, ◌%◌, ◌^◌, List, [], ◌∷◌, Bool, true, false, length, length-append, arith, refl, sym, ap, ◌∙◌, eq-eqb, eqb-true}
 use Rattle.std.specs.Prelude.{decimal}
-use Rattle.exact_num.specs.Text.{padded, point_text, size_text}
+use Rattle.exact_num.specs.Text.{padded, size_text}
 
 padded_length : (k n : ℕ) → length (padded k n) ≡ k
 unfolding padded

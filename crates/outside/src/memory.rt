@@ -70,6 +70,7 @@ impl Source for MemSource {
         ensures count { ReadsAtMost result into.new }
         ensures bytes { ReadConsumes (Some self.old.left) (Some self.new.left) result into.new }
         ensures cause { HasCauseAt self.old.plan.faults self.new.plan.faults (IsErrOf result SourceError.Failed) }
+        ensures steady { IfOk result (λ count. self.new.plan.faults ≡ self.old.plan.faults) }
         ensures plan { Turns self.old.plan self.new.plan (IsErrOf result SourceError.Failed) }
         ensures piece { IfOk result (λ count. count ≡ min (min self.old.piece (length into.old)) (length self.old.left)) }
         ensures pieces { self.new.piece ≡ self.old.piece }
@@ -158,6 +159,7 @@ impl Sink for MemSink {
         ensures count { IfOk result (λ count. count ≤ length bytes.now) }
         ensures bytes { WriteAppends (Some self.old.written) (Some self.new.written) result bytes.now }
         ensures cause { HasCauseAt self.old.plan.faults self.new.plan.faults (IsErrOf result SinkError.Failed) }
+        ensures steady { IfOk result (λ count. self.new.plan.faults ≡ self.old.plan.faults) }
         ensures plan { Turns self.old.plan self.new.plan (IsErrOf result SinkError.Failed) }
         ensures piece { IfOk result (λ count. count ≡ min self.old.piece (length bytes.now)) }
         ensures pieces { self.new.piece ≡ self.old.piece }

@@ -1,6 +1,6 @@
 //! Sinks for bytes.
 
-ghost use Rattle.std.specs.Prelude.{◌<◌, ◌≤◌, List, ℕ, Option, length, IfOk, OnOk, OnErr, IsErrOf};
+ghost use Rattle.std.specs.Prelude.{◌≡◌, ◌<◌, ◌≤◌, List, ℕ, Option, length, IfOk, OnOk, OnErr, IsErrOf};
 ghost use Rattle.std.specs.Io.KnownBytes.{Appends, WriteAppends};
 ghost use Rattle.outside.specs.Devices.{HasCauseAt, AppendsPrefix};
 
@@ -34,7 +34,8 @@ pub trait Sink {
         ensures some { IfOk result (λ count. 0 < count) }
         ensures count { IfOk result (λ count. count ≤ length bytes.now) }
         ensures bytes { WriteAppends (written self.old) (written self.new) result bytes.now }
-        ensures cause { HasCauseAt (faults self.old) (faults self.new) (IsErrOf result SinkError.Failed) };
+        ensures cause { HasCauseAt (faults self.old) (faults self.new) (IsErrOf result SinkError.Failed) }
+        ensures steady { IfOk result (λ count. faults self.new ≡ faults self.old) };
 }
 
 /// Writes all the bytes of a piece.
@@ -44,6 +45,7 @@ pub fn write_all<K: Sink>(sink: &mut K, bytes: &[u8]) -> Result<(), SinkError>
     ensures ok { OnOk result (Appends (K.written sink.old) (K.written sink.new) bytes.now) }
     ensures err { OnErr result (AppendsPrefix (K.written sink.old) (K.written sink.new) bytes.now) }
     ensures cause { HasCauseAt (K.faults sink.old) (K.faults sink.new) (IsErrOf result SinkError.Failed) }
+    ensures steady { OnOk result (K.faults sink.new ≡ K.faults sink.old) }
 {
     let mut done = 0;
     while done < bytes.len() {

@@ -1,6 +1,6 @@
 //! Sources of bytes.
 
-ghost use Rattle.std.specs.Prelude.{◌<◌, List, ℕ, Option, length, IsErrOf};
+ghost use Rattle.std.specs.Prelude.{◌≡◌, ◌<◌, List, ℕ, Option, length, IfOk, IsErrOf};
 ghost use Rattle.std.specs.Io.{ReadsAtMost};
 ghost use Rattle.std.specs.Io.KnownBytes.{ReadConsumes};
 ghost use Rattle.outside.specs.Devices.{HasCauseAt};
@@ -31,5 +31,6 @@ pub trait Source {
         requires { 0 < length into.old }
         ensures count { ReadsAtMost result into.new }
         ensures bytes { ReadConsumes (left self.old) (left self.new) result into.new }
-        ensures cause { HasCauseAt (faults self.old) (faults self.new) (IsErrOf result SourceError.Failed) };
+        ensures cause { HasCauseAt (faults self.old) (faults self.new) (IsErrOf result SourceError.Failed) }
+        ensures steady { IfOk result (λ count. faults self.new ≡ faults self.old) };
 }

@@ -2,8 +2,7 @@
 use Rattle.std.proofs.Common.{◌≡◌, ◌≤◌, ◌<◌, ℕ, List, [], ◌∷◌, Bool, true, false, length, get_or, arith, ap, sym, ◌∙◌, refl, not}
 use Rattle.std.specs.Cmp.Lexicographic.{same_text, pointwise}
 use Rattle.std.specs.Prelude.{nat_eq, codes}
-use Rattle.variant_store.specs.Path.{IsPath}
-use Rattle.variant_store.specs.Words.{AreScan, AskScan, AskBadPath}
+use Rattle.variant_store.specs.Words.{AreScan}
 
 two_words : (ws : List (List ℕ)) (a b : List ℕ) → 2 ≤ length ws → length ws < 3 → a ≡ get_or ws 0 a → b ≡ get_or ws 1 b → ws ≡ a ∷ (b ∷ [])
 two_words [] a b h k e f = absurd (omega arith)

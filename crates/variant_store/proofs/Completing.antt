@@ -1,16 +1,15 @@
 -- Admitted input and no fault of a device give status 0, or 7.
-use Rattle.std.proofs.Common.{◌≡◌, ◌⊎◌, inl, inr, ⊎_elim, ℕ, List, [], ◌∷◌, refl, sym, ap, subst, ◌∙◌, Option, Some, None, Result, Ok, Err, arith}
+use Rattle.std.proofs.Common.{◌≡◌, inl, inr, ℕ, List, [], ◌∷◌, refl, subst, Option, Some, None, Result, Ok, Err}
 use Rattle.std.specs.Prelude.{codes}
-use Rattle.outside.specs.Devices.{Rose, HasCauseAt}
+use Rattle.outside.specs.Devices.{HasCauseAt}
 use Rattle.std.specs.Result.{IsErrOf}
 use Rattle.json_tree.specs.Json.{Json}
 use Rattle.json_lines.specs.Cut.{lines_of}
 use Rattle.exact_json.specs.Documents.{Ending, at_end, HasDocuments, max_input}
 use Rattle.exact_json.proofs.Walks.{walks_once}
 use Rattle.variant_store.specs.Path.{IsPath}
-use Rattle.variant_store.specs.Words.{AskScan, AskBadPath, AskNothing}
 use Rattle.variant_store.specs.Report.{IsReported}
-use Rattle.variant_store.specs.Top.{RunsScan, Runs, Ends, IsAnswer, Completes}
+use Rattle.variant_store.specs.Top.{Runs, Ends, Completes}
 use Rattle.variant_store.specs.declared.refusal.Refusal.{Refusal}
 use Rattle.variant_store.specs.declared.refusal.Refusal.TheVariants as refusal
 

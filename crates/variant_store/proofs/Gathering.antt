@@ -1,9 +1,9 @@
 -- Lemmas on gathered output, and on what a walk over the lines keeps true.
-use Rattle.std.proofs.Common.{◌≡◌, ℕ, ◌+◌, ◌≤◌, List, [], ◌∷◌, ◌++◌, length, take, drop, refl, sym, ap, subst, ◌∙◌, Option, Some, None, Result, Ok, Err, Bool, true, false, append_assoc, append-nil, arith, length-append}
-use Rattle.std.proofs.KnownBytes.{Appends-kept, Appends-nil, Appends-trans, Keeps-refl}
+use Rattle.std.proofs.Common.{◌≡◌, ℕ, ◌+◌, ◌≤◌, List, [], ◌∷◌, ◌++◌, length, take, refl, sym, ap, subst, ◌∙◌, Option, Some, None, Result, Ok, Err, false, append_assoc, append-nil, arith, length-append}
+use Rattle.std.proofs.KnownBytes.{Appends-kept, Appends-nil, Appends-trans}
 use Rattle.std.proofs.lemmas.List.{take-append-le}
-use Rattle.std.proofs.Math.Seq.{take-append_seam, take-append-add}
-use Rattle.std.specs.Io.KnownBytes.{Appends, Keeps}
+use Rattle.std.proofs.Math.Seq.{take-append-add}
+use Rattle.std.specs.Io.KnownBytes.{Appends}
 use Rattle.outside.specs.Devices.{AppendsPrefix, HasCauseAt}
 use Rattle.std.specs.Result.{IsErrOf}
 use Rattle.json_tree.specs.Json.{Json}
@@ -12,7 +12,7 @@ use Rattle.json_lines.specs.Next.{State, nothing, lines_ahead}
 use Rattle.exact_json.specs.Documents.{Ending, at_end, at_line, at_limit, Walks, HasDocuments, max_input}
 use Rattle.exact_json.proofs.Walks.{walked}
 use Rattle.variant_store.specs.Answer.{line_of, answer_of}
-use Rattle.variant_store.specs.Scan.{AnswersAll, AnswersRead, AnswersPrefix, Scans}
+use Rattle.variant_store.specs.Scan.{AnswersAll, AnswersPrefix, Scans}
 use Rattle.variant_store.specs.Gathered.{gathered, Extends, DrainsSome, Turns, GoesOn, StandsAt, StandsKnown, Stands, Gathers, GathersKnown, StillExtends, IsOfTurn, IsOfScan, Drains, cuts_off}
 use Rattle.variant_store.specs.declared.refusal.Refusal.{Refusal}
 use Rattle.variant_store.specs.declared.refusal.Refusal.TheVariants as refusal

@@ -1,5 +1,5 @@
 -- Lemmas on the reading of paths.
-use Rattle.std.proofs.Common.{◌≡◌, ◌<◌, ◌≤◌, ◌+◌, ◌-◌, ◌==◌, ◌++◌, ℕ, zero, suc, List, [], ◌∷◌, Bool, true, false, cond, length, take, drop, arith, rules, refl, sym, ap, subst, ◌∙◌, eqb-true, Option, Some, None, Result, Ok, Err, ◌&&◌, ◌||◌, append-nil, append_assoc}
+use Rattle.std.proofs.Common.{◌≡◌, ◌<◌, ◌≤◌, ◌+◌, ◌==◌, ◌++◌, ℕ, zero, suc, List, [], ◌∷◌, Bool, true, false, cond, length, take, drop, arith, refl, sym, ap, subst, ◌∙◌, eqb-true, Option, Some, None, Err, append-nil, append_assoc}
 use Rattle.std.specs.Option.{option_map}
 use Rattle.std.proofs.lemmas.Bool.Decides.{nat_tests}
 use Rattle.std.proofs.lemmas.List.{take-append-drop}
@@ -7,11 +7,11 @@ use Rattle.std.proofs.lemmas.List.Sums.{prefix_len-le-length}
 use Rattle.std.proofs.lemmas.Str.{IsUtf8-from_ascii}
 use Rattle.std.proofs.Math.Seq.{take-append_seam, drop-append_seam}
 use Rattle.std.specs.Str.{IsAscii, IsUtf8}
-use Rattle.std.specs.List.{prefix_len, AllByRecursion, slice_index}
-use Rattle.variant_store.specs.Path.{is_name_start, is_name_byte, IsName, steps_text, path_text, IsPath}
+use Rattle.std.specs.List.{prefix_len, AllByRecursion}
+use Rattle.variant_store.specs.Path.{is_name_start, is_name_byte, IsName, steps_text, IsPath}
 use Rattle.variant_store.specs.declared.path.PathFault.{PathFault}
 use Rattle.variant_store.specs.declared.path.PathFault.TheVariants.{BadPath, NoMemory}
-use Rattle.variant_store.specs.PathReading.{GivesSteps, Parses, after_byte, starts_name, name_of, name_behind, step_of, steps_in, with_step}
+use Rattle.variant_store.specs.PathReading.{GivesSteps, Parses, after_byte, starts_name, name_behind, step_of, steps_in, with_step}
 
 pub name_fits : (xs : List ℕ) → prefix_len is_name_byte xs ≤ length xs
 name_fits xs = prefix_len-le-length is_name_byte xs

@@ -1,5 +1,5 @@
 -- Lemmas on one turn of the walk over the lines of an input.
-use Rattle.std.proofs.Common.{◌≡◌, ℕ, List, [], ◌∷◌, ◌++◌, refl, sym, ap, subst, ◌∙◌, Option, Some, None, Result, Ok, Err, Bool, true, false, cond, ◌+◌}
+use Rattle.std.proofs.Common.{◌≡◌, ℕ, List, [], ◌∷◌, refl, sym, subst, Option, Some, None, Ok, Err, Bool, true, false, cond, ◌+◌}
 use Rattle.json_tree.specs.Json.{Json}
 use Rattle.json_lines.specs.Next.{State, ComesFrom, lines_ahead, found}
 use Rattle.json_lines.specs.declared.line_reader.Next.TheVariants as next

@@ -1,5 +1,5 @@
 -- What a query answers: matches, the printed line, the lines of all documents.
-use Rattle.std.specs.Prelude.{◌≡◌, ℕ, List, [], ◌∷◌, ◌++◌, Option, None, Some}
+use Rattle.std.specs.Prelude.{ℕ, List, [], ◌∷◌, ◌++◌, Option, None, Some}
 use Rattle.json_tree.specs.Json.{Json, null, boolean, number, text, array, object}
 use Rattle.json_tree.specs.Order.{member_of}
 use Rattle.json_tree.specs.Text.{quoted, text_of}

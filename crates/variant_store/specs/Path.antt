@@ -1,5 +1,5 @@
 -- The paths that a query may ask for: `$`, then a dot and a name for each field step.
-use Rattle.std.specs.Prelude.{◌≡◌, ◌==◌, ℕ, ◌≤◌, nat_le, List, [], ◌∷◌, ◌++◌, Bool, true, false, cond, ◌&&◌, ◌||◌, length}
+use Rattle.std.specs.Prelude.{◌≡◌, ◌==◌, ℕ, ◌≤◌, nat_le, List, [], ◌∷◌, ◌++◌, Bool, true, ◌&&◌, ◌||◌, length}
 use Rattle.std.specs.List.{AllByRecursion}
 
 -- a letter or `_`

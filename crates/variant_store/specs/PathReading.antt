@@ -1,5 +1,5 @@
 -- How a path is read: the code's steps, as functions on lists.
-use Rattle.std.specs.Prelude.{◌≡◌, ◌==◌, ℕ, zero, suc, List, [], ◌∷◌, ◌++◌, Bool, true, false, cond, ◌&&◌, Result, Ok, Err, Option, None, Some, option_map, take, drop}
+use Rattle.std.specs.Prelude.{◌≡◌, ◌==◌, ℕ, zero, suc, List, [], ◌∷◌, Bool, false, cond, Result, Ok, Err, Option, None, Some, option_map, take, drop}
 use Rattle.std.specs.List.{prefix_len}
 use Rattle.variant_store.specs.Path.{is_name_start, is_name_byte, IsPath}
 use Rattle.variant_store.specs.declared.path.PathFault.{PathFault}

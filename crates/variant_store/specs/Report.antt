@@ -1,5 +1,5 @@
 -- The status of a refusal, and the line that the error output gains.
-use Rattle.std.specs.Prelude.{◌≡◌, ◌⊎◌, ℕ, List, [], ◌∷◌, ◌++◌, Option, codes, decimal}
+use Rattle.std.specs.Prelude.{◌≡◌, ◌⊎◌, ℕ, List, ◌++◌, Option, codes, decimal}
 use Rattle.std.specs.Io.KnownBytes.{Appends}
 use Rattle.outside.specs.Devices.{Rose, AppendsPrefix}
 use Rattle.exact_json.specs.Faults.{name_of}

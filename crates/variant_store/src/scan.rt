@@ -3,7 +3,7 @@
 //! Lines are read, answered and gathered one by one. The output is written in pieces, and before each
 //! answer that promises it.
 
-ghost use Rattle.std.specs.Prelude.{◌≡◌, [], IsErrOf};
+ghost use Rattle.std.specs.Prelude.{◌≡◌, [], IfOk, OnOk, IsErrOf};
 ghost use Rattle.outside.specs.Devices.{HasCauseAt};
 ghost use Rattle.json_lines.specs.Next.{nothing};
 ghost use Rattle.exact_json.specs.Documents.{max_input};
@@ -37,6 +37,7 @@ pub enum Turn {
 fn drain<O: Sink>(pending: &mut Vec<u8>, out: &mut O) -> Result<(), Refusal>
     ensures drains { Drains (O.written out.old) (O.written out.new) pending.old.items pending.new.items result }
     ensures cause { HasCauseAt (O.faults out.old) (O.faults out.new) (IsErrOf result Refusal.WriteFault) }
+    ensures steady { OnOk result (O.faults out.new ≡ O.faults out.old) }
 {
     match write_all(out, pending.as_slice()) {
         Ok(()) => {
@@ -52,6 +53,7 @@ fn drain<O: Sink>(pending: &mut Vec<u8>, out: &mut O) -> Result<(), Refusal>
 fn drain_piece<O: Sink>(pending: &mut Vec<u8>, out: &mut O) -> Result<(), Refusal>
     ensures drains { DrainsSome (O.written out.old) (O.written out.new) pending.old.items pending.new.items result }
     ensures cause { HasCauseAt (O.faults out.old) (O.faults out.new) (IsErrOf result Refusal.WriteFault) }
+    ensures steady { OnOk result (O.faults out.new ≡ O.faults out.old) }
 {
     if pending.len() < PIECE {
         return Ok(());
@@ -92,6 +94,7 @@ fn take_turn<I: Source>(
     ensures goes_on { GoesOn lines.old lines.new result }
     ensures answers { IsOfTurn result }
     ensures cause { HasCauseAt (I.faults input.old) (I.faults input.new) (IsErrOf result Refusal.ReadFault) }
+    ensures steady { IfOk result (λ turn. I.faults input.new ≡ I.faults input.old) }
 {
     match lines.next(input) {
         Ok(Next::Line { number, bytes }) => {
@@ -129,6 +132,7 @@ fn walk<I: Source, O: Sink>(
     ensures answers { IsOfScan result }
     ensures read_cause { HasCauseAt (I.faults input.old) (I.faults input.new) (IsErrOf result Refusal.ReadFault) }
     ensures write_cause { HasCauseAt (O.faults out.old) (O.faults out.new) (IsErrOf result Refusal.WriteFault) }
+    ensures steady { OnOk result ((I.faults input.new ≡ I.faults input.old) × (O.faults out.new ≡ O.faults out.old)) }
 {
     'turns: loop {
         match drain_piece(pending, out) {
@@ -168,6 +172,7 @@ pub fn scan<I: Source, O: Sink>(
     ensures answers { IsOfScan result }
     ensures read_cause { HasCauseAt (I.faults input.old) (I.faults input.new) (IsErrOf result Refusal.ReadFault) }
     ensures write_cause { HasCauseAt (O.faults out.old) (O.faults out.new) (IsErrOf result Refusal.WriteFault) }
+    ensures steady { OnOk result ((I.faults input.new ≡ I.faults input.old) × (O.faults out.new ≡ O.faults out.old)) }
 {
     let mut lines = match Lines::new(alloc, INPUT_LIMIT) {
         Ok(lines) => lines,

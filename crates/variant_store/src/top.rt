@@ -1,6 +1,6 @@
 //! The top call: words in, a status out.
 
-ghost use Rattle.std.specs.Prelude.{◌≡◌, IsErrOf};
+ghost use Rattle.std.specs.Prelude.{◌≡◌, OnOk, IsErrOf};
 ghost use Rattle.outside.specs.Devices.{HasCauseAt};
 ghost use Rattle.variant_store.specs.Top.{Runs, RunsScan, IsAnswer, Completes};
 
@@ -23,6 +23,7 @@ fn run<I: Source, O: Sink>(
     ensures runs { Runs words.now (I.left input.old) (I.left input.new) (O.written out.old) (O.written out.new) ((input.new ≡ input.old) × (out.new ≡ out.old)) result }
     ensures read_cause { HasCauseAt (I.faults input.old) (I.faults input.new) (IsErrOf result Refusal.ReadFault) }
     ensures write_cause { HasCauseAt (O.faults out.old) (O.faults out.new) (IsErrOf result Refusal.WriteFault) }
+    ensures steady { OnOk result ((I.faults input.new ≡ I.faults input.old) × (O.faults out.new ≡ O.faults out.old)) }
 {
     match asked_path(alloc, words) {
         Ok(path) => scan(alloc, &path, input, out),
@@ -38,7 +39,7 @@ fn run<I: Source, O: Sink>(
 ///
 /// | Status | Line on `err` | Where |
 /// |---|---|---|
-/// | 0 | none | the job was done, and the input was read to its end |
+/// | 0 | none | the job was done, the input was read to its end, and no read or write failed |
 /// | 2 | `vstore: usage` | the words have no such command |
 /// | 2 | `vstore: bad path` | the path isn't in its grammar |
 /// | 3 | `vstore: line N: FAULT` | line N is the first that has a fault ([`DocFault`]); all lines before it are answered |
@@ -57,6 +58,7 @@ pub fn vstore<I: Source, O: Sink, E: Sink>(
 ) -> u8
     ensures answer { IsAnswer words.now (I.left input.old) (I.left input.new) (O.written out.old) (O.written out.new) ((input.new ≡ input.old) × (out.new ≡ out.old)) (I.faults input.old) (I.faults input.new) (O.faults out.old) (O.faults out.new) (E.written err.old) (E.written err.new) (E.faults err.old) (E.faults err.new) result }
     ensures complete { Completes words.now (I.left input.old) (I.faults input.old) (I.faults input.new) (O.faults out.old) (O.faults out.new) result }
+    ensures steady { result ≡ 0 → (I.faults input.new ≡ I.faults input.old) × (O.faults out.new ≡ O.faults out.old) }
     ensures zero { result ≡ 0 → RunsScan words.now (I.left input.old) (I.left input.new) (O.written out.old) (O.written out.new) (Ok tt) }
 {
     match run(alloc, words, input, out) {

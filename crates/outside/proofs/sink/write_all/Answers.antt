@@ -1,4 +1,4 @@
-use Rattle.std.proofs.Common.{◌+◌, ◌≤◌, length, arith, rules}
+use Rattle.std.proofs.Common.{◌∙◌, ◌+◌, ◌≤◌, length, rules}
 use Rattle.outside.proofs.Pieces.{appends_on}
 use Rattle.outside.proofs.sink.write_all.Goals as goal
 
@@ -8,5 +8,5 @@ loop-done-preserved g c =
     record {
       within = fits;
       written = appends_on _ _ _ c.args.bytes.now c.loop-done.done c.in_ok-done.field-0 fits c.loop-done.invariant.written c.in_ok-done.ensures.bytes;
-      later = omega (arith, c.loop-done.invariant.later, c.write.ensures.cause.later);
+      steady = c.in_ok-done.ensures.steady ∙ c.loop-done.invariant.steady;
     }

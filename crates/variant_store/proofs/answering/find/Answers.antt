@@ -1,4 +1,4 @@
-use Rattle.std.proofs.Common.{◌≡◌, ◌∙◌, sym, ap, ℕ, List}
+use Rattle.std.proofs.Common.{◌∙◌, sym, ap, ℕ, List}
 use Rattle.json_tree.specs.View.{view}
 use Rattle.variant_store.specs.Answer.{field_of}
 use Rattle.variant_store.proofs.Matches.{field_ordered, match_turn}

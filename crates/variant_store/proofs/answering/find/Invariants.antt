@@ -1,4 +1,4 @@
-use Rattle.std.proofs.Common.{◌≡◌, List, ℕ, drop}
+use Rattle.std.proofs.Common.{◌≡◌, drop}
 use Rattle.json_tree.specs.Order.{IsOrdered}
 use Rattle.json_tree.specs.View.{view}
 use Rattle.variant_store.specs.Answer.{match_of}

@@ -1,4 +1,4 @@
-use Rattle.std.proofs.Common.{◌≡◌, ap, sym, subst, ◌∙◌, take, ℕ}
+use Rattle.std.proofs.Common.{ap, sym, subst, ◌∙◌, take, ℕ}
 use Rattle.std.specs.Str.{IsUtf8}
 use Rattle.variant_store.proofs.Paths.{name_is_text}
 use Rattle.variant_store.proofs.path.first_name.Goals as goal

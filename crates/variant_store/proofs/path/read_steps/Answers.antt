@@ -1,4 +1,4 @@
-use Rattle.std.proofs.Common.{◌≡◌, ◌∙◌, ◌-◌, ◌+◌, sym, ap, arith, rules, refl, suc, ℕ, vec_len, List, [], ◌∷◌, ◌++◌, subst}
+use Rattle.std.proofs.Common.{◌≡◌, ◌∙◌, ◌-◌, ◌+◌, sym, ap, arith, suc, ℕ, vec_len, List, [], ◌∷◌, ◌++◌, subst}
 use Rattle.variant_store.specs.PathReading.{steps_in}
 use Rattle.variant_store.proofs.Paths.{none_of_many, none_of_no_step, more_of_step, all_at_end, behind_names}
 use Rattle.variant_store.proofs.path.read_steps.Goals as goal

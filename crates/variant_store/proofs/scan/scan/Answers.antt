@@ -1,4 +1,4 @@
-use Rattle.std.proofs.Common.{◌≡◌, ◌∙◌, sym}
+use Rattle.std.proofs.Common.{◌∙◌, sym}
 use Rattle.variant_store.proofs.Gathering.{scan_cut, scan_done, scan_unstarted}
 use Rattle.variant_store.proofs.scan.scan.Goals as goal
 

@@ -1,4 +1,4 @@
-use Rattle.std.proofs.Common.{◌≡◌, ◌∙◌, subst, ℕ, List, Ok, Err}
+use Rattle.std.proofs.Common.{subst, ℕ, List, Ok, Err}
 use Rattle.variant_store.specs.Gathered.{GathersLine}
 use Rattle.variant_store.proofs.Turning.{turn_ended, turn_long, turn_over, turn_more, turn_refused, turn_unread}
 use Rattle.variant_store.proofs.scan.take_turn.Goals as goal

@@ -1,4 +1,4 @@
-use Rattle.std.proofs.Common.{◌≡◌, ◌≤◌, arith, rules}
+use Rattle.std.proofs.Common.{◌∙◌, arith}
 use Rattle.variant_store.proofs.Gathering.{drain_failed, stands_drained, stands_more, turn_failed, drained_extends, still_extends, no_write_fault}
 use Rattle.variant_store.proofs.scan.walk.Goals as goal
 
@@ -8,8 +8,8 @@ returns-in-Err-clause-gathers g c = drain_failed _ _ _ _ _ _ _ _ _ _ c.turns.inv
 pub turns-preserved : goal.turns-preserved
 turns-preserved g c = record {
   stands = stands_more _ _ _ _ _ _ _ _ _ _ (stands_drained _ _ _ _ _ _ _ _ _ c.turns.invariant.stands c.in-Ok.ensures.drains) (rw c.in-Ok-More.field-0-is at c.in-Ok-More.ensures.turns) (rw c.in-Ok-More.field-0-is at c.in-Ok-More.ensures.goes_on);
-  reads = omega (arith, c.take_turn.ensures.cause.later, c.turns.invariant.reads);
-  writes = omega (arith, c.drain_piece.ensures.cause.later, c.turns.invariant.writes);
+  reads = c.in-Ok-More.ensures.steady ∙ c.turns.invariant.reads;
+  writes = c.in-Ok.ensures.steady ∙ c.turns.invariant.writes;
 }
 
 pub returns-in-Ok-Ended-clause-extends : goal.returns-in-Ok-Ended-clause-extends

@@ -1,4 +1,4 @@
-use Rattle.std.proofs.Common.{◌≡◌, sym, arith}
+use Rattle.std.proofs.Common.{sym, arith}
 use Rattle.variant_store.proofs.CommandWords.{are_scan}
 use Rattle.variant_store.proofs.words.asked_path.Goals as goal
 

@@ -10,7 +10,7 @@ invariant-loop-at g l = record {
   follows : Follows (g.S.Source.left l.fn.source) (g.S.Source.left l.source) l.fn.self l.self;
   room : l.self.room ≤ l.fn.self.room;
   decided : is_decided (lines_of l.fn.self.room l.fn.self.held) ≡ true → (l.source ≡ l.fn.source) × (is_decided (lines_of l.self.room l.self.held) ≡ true);
-  later : g.S.Source.faults l.fn.source ≤ g.S.Source.faults l.source;
+  steady : g.S.Source.faults l.source ≡ g.S.Source.faults l.fn.source;
 }
 
 -- a pass over blank lines keeps it, and a read makes it less
