@@ -6,7 +6,6 @@ pub mod Depths
 pub mod Ordered
 pub mod Judged
 pub mod Walks
-pub mod TextStrings
 pub mod TextAscii
 pub mod TextNumbers
 pub mod TextMembers

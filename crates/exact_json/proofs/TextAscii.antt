@@ -12,7 +12,7 @@ use Rattle.json_grammar.specs.Grammar.{IsNumber}
 use Rattle.json_grammar.specs.Reading.{is_numeric}
 use Rattle.json_grammar.proofs.Gaps.{Passes}
 use Rattle.json_grammar.proofs.Numbers.{number_passes}
-use Rattle.exact_json.proofs.TextStrings.{shown}
+use Rattle.json_tree.proofs.QuotedStrings.{shown}
 
 abbrev pub AllAscii : List ℕ → Type 0
 AllAscii bytes = AllByRecursion (λ b. b < 128) bytes

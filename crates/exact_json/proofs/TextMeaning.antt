@@ -8,7 +8,7 @@ use Rattle.json_tree.specs.Json.{Json, null, boolean, number, text, array, objec
 use Rattle.json_tree.specs.Order.{IsOrdered, AreOrdered, HoldOrdered}
 use Rattle.exact_json.specs.Document.{IsValid, AreValid, HoldValid}
 use Rattle.exact_json.specs.Meaning.{Flaws, flawless, joined, lone_flaw, repeated_flaw, tree_of, parts_in, more_parts_in, pairs_in, more_pairs_in, flaws_of, elements_flaws, more_elements_flaws, entries_flaws, more_entries_flaws, number_or_null, wide_flaw, object_or_null}
-use Rattle.exact_json.proofs.TextStrings.{pieces_of, string_means, string_paired, string_well}
+use Rattle.json_tree.proofs.QuotedStrings.{pieces_of, string_means, string_paired, string_well}
 use Rattle.exact_json.proofs.TextNumbers.{text_well, text_means}
 use Rattle.exact_json.proofs.TextMembers.{members, none_repeats, object_is}
 use Rattle.exact_json.proofs.TextTrees.{written_of, elements_of, more_elements_of, entries_of, more_entries_of}

@@ -6,7 +6,7 @@ use Rattle.json_strings.specs.Pieces.{pieces_spelled}
 use Rattle.exact_num.specs.Text as numbers
 use Rattle.json_tree.specs.Json.{Json, null, boolean, number, text, array, object, Parts, no_parts, part, Fields, no_fields, field, depth_of, parts_depth, fields_depth}
 use Rattle.json_tree.specs.Text.{text_of, parts_text, more_parts, fields_text, more_fields, quoted}
-use Rattle.exact_json.proofs.TextStrings.{pieces_of, string_spells}
+use Rattle.json_tree.proofs.QuotedStrings.{pieces_of, string_spells}
 
 abbrev mutual
   pub written_of : Json → Written

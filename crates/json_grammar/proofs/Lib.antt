@@ -1,6 +1,6 @@
 pub mod Gaps
-mod Holds
-mod Strings
+pub mod Holds
+pub mod Strings
 pub mod Numbers
 mod Listed
 mod Sound

@@ -3,4 +3,5 @@ pub mod Escapes
 pub mod MembersMade
 pub mod MembersOrder
 pub mod NameSearch
+pub mod QuotedStrings
 pub mod Views

@@ -32,8 +32,16 @@ pub fn print_text(into: &mut Vec<u8>, text: &str) -> Result<(), NoMemory>
     ensures ok { OnOk result (into.new.items ≡ into.old.items ++ quoted text.now) }
     ensures err { OnErr result (into.new.items ≡ into.old.items) }
 {
+    print_quoted(into, text.as_bytes())
+}
+
+/// Appends the bytes of some text as a JSON string, in its quotes. After an `Err` `into` is as before.
+pub fn print_quoted(into: &mut Vec<u8>, text: &[u8]) -> Result<(), NoMemory>
+    ensures ok { OnOk result (into.new.items ≡ into.old.items ++ quoted text.now) }
+    ensures err { OnErr result (into.new.items ≡ into.old.items) }
+{
     let before = into.len();
-    if put_text(into, text.as_bytes()).is_err() {
+    if put_text(into, text).is_err() {
         into.truncate(before);
         return Err(NoMemory);
     }
