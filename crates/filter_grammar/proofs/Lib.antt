@@ -1,0 +1,9 @@
+mod Spaces
+mod Words
+mod Numbers
+mod Sound
+mod Terms
+mod Complete
+pub mod Texts
+pub mod ParserParts
+pub mod ParserWhole

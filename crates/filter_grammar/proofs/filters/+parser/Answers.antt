@@ -1,0 +1,37 @@
+use Rattle.std.proofs.Common.{◌+◌, ◌-◌, length, arith, codes, List, ℕ, Bor}
+use Rattle.filter_grammar.specs.declared.parsed.Parsed.{Parsed}
+use Rattle.std.proofs.lemmas.Result.{err_from_is_err_and}
+use Rattle.query_tree.specs.Formula.{conjunction, disjunction}
+use Rattle.filter_grammar.specs.Grammar.{both, either}
+use Rattle.filter_grammar.specs.Parsing.{shown}
+use Rattle.filter_grammar.specs.Reading.{conj_at, unit_at}
+use Rattle.filter_grammar.proofs.ParserParts.{bracketed_is, no_bracketed, conj_joins, filter_joins, turns, hands_on}
+use Rattle.filter_grammar.proofs.filters.+parser.Goals as goal
+
+pub read_bracketed-returns-in_err-inner : goal.read_bracketed-returns-in_err-inner
+read_bracketed-returns-in_err-inner t c = record {
+  told = let p = err_from_is_err_and c.from_residual.result c.from_residual.ensures.1 in rw (p.1, p.2) (hands_on {A = Parsed × Bor (List ℕ)} {C = Parsed × Bor (List ℕ)} (λ x. (shown x.0, x.1.now)) (λ x. (shown x.0, x.1.now)) c.in_err-inner.field-0.0 _ _ c.in_err-inner.ensures.told (λ none.
+      no_bracketed c.args.room (c.args.room - 1) c.args.text.now c.past_spaces.result.now (omega arith) c.past_spaces.ensures none));
+}
+
+pub read_bracketed-returns-in-Some : goal.read_bracketed-returns-in-Some
+read_bracketed-returns-in-Some t c = record {
+  told = bracketed_is c.args.room (c.args.room - 1) c.args.text.now c.past_spaces.result.now (shown c.in_ok-inner.inner) c.in_ok-inner.behind.now c.past_spaces-2.result.now _ (omega arith) c.past_spaces.ensures c.in_ok-inner.ensures.told c.past_spaces-2.ensures c.in-Some.ensures;
+}
+
+pub read_bracketed-returns-in-None : goal.read_bracketed-returns-in-None
+read_bracketed-returns-in-None t c = record {
+  told = bracketed_is c.args.room (c.args.room - 1) c.args.text.now c.past_spaces.result.now (shown c.in_ok-inner.inner) c.in_ok-inner.behind.now c.past_spaces-2.result.now _ (omega arith) c.past_spaces.ensures c.in_ok-inner.ensures.told c.past_spaces-2.ensures c.in-None.ensures;
+}
+
+pub read_conj-loop-turn-preserved : goal.read_conj-loop-turn-preserved
+read_conj-loop-turn-preserved t c =
+    turns (codes "and") both conjunction (λ xs. unit_at c.args.room xs) (conj_joins (λ xs. unit_at c.args.room xs)) c.args.text.now (shown c.loop-turn.left) (shown c.in_ok-right.right) (shown c.in_ok-left-2.left)
+    (length c.in_ok-left.rest.now - c.loop-turn.turn) (length c.in_ok-left.rest.now - (c.loop-turn.turn + 1)) c.loop-turn.rest.now c.in-Some.behind.now c.past_spaces-in-loop-turn.result.now c.in_ok-right.after.now
+    c.loop-turn.invariant (omega arith) (rw (← c.past_spaces.ensures) c.in-Some.ensures) c.past_spaces-in-loop-turn.ensures c.in_ok-right.ensures.told c.in_ok-left-2.ensures
+
+pub read_filter-loop-turn-preserved : goal.read_filter-loop-turn-preserved
+read_filter-loop-turn-preserved t c =
+    turns (codes "or") either disjunction (λ ys. conj_at (λ xs. unit_at c.args.room xs) ys) (filter_joins (λ ys. conj_at (λ xs. unit_at c.args.room xs) ys)) c.args.text.now (shown c.loop-turn.left) (shown c.in_ok-right.right) (shown c.in_ok-left-2.left)
+    (length c.in_ok-left.rest.now - c.loop-turn.turn) (length c.in_ok-left.rest.now - (c.loop-turn.turn + 1)) c.loop-turn.rest.now c.in-Some.behind.now c.past_spaces-in-loop-turn.result.now c.in_ok-right.after.now
+    c.loop-turn.invariant (omega arith) (rw (← c.past_spaces.ensures) c.in-Some.ensures) c.past_spaces-in-loop-turn.ensures c.in_ok-right.ensures.told c.in_ok-left-2.ensures

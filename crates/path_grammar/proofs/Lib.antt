@@ -1,0 +1,10 @@
+pub mod CanonicalLengths
+pub mod CanonicalTexts
+pub mod Complete
+pub mod Decimals
+pub mod Digits
+pub mod Lengths
+pub mod Runs
+pub mod Sound
+pub mod Texts
+pub mod Turns

@@ -1,0 +1,11 @@
+-- The steps that have a text.
+use Rattle.std.specs.Prelude.{◌≡◌, ◌≤◌, true}
+use Rattle.std.specs.Str.{is_utf8}
+use Rattle.query_tree.specs.declared.step.Step.{Step}
+use Rattle.query_tree.specs.declared.step.Step.TheVariants.{Field, Index, Star}
+
+-- a name is UTF-8, and an index has at most nine digits
+abbrev pub IsWritable : Step → Type 0
+IsWritable (Field name) = is_utf8 name ≡ true
+IsWritable (Index n) = n ≤ 999999999
+IsWritable Star = Unit {0}

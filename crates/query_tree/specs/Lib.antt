@@ -1,0 +1,4 @@
+pub mod Asked
+pub mod Formula
+pub mod PathText
+pub mod View
