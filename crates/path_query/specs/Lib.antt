@@ -1,0 +1,6 @@
+pub mod Answer
+pub mod Matches
+pub mod Members
+pub mod Rows
+pub mod Serves
+pub mod Truth
