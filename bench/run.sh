@@ -23,28 +23,35 @@ timed() {
     echo "$least $memory"
 }
 
-echo "| input | path | MB | vstore s | MB/s | peak MB | jq s | ratio |"
-echo "|---|---|---|---|---|---|---|---|"
-for shape in numbers records; do
-    path='$.a'; filter='.a'
-    [ "$shape" = records ] && path='$.user.name' && filter='.user.name'
+# one row: the shape, jq's program, the words of a scan
+row() {
+    local shape=$1 program_of_jq=$2 size
+    shift 2
     for size in $sizes; do
         python3 "$here/generate.py" "$shape" $((size * 1000000)) > "$work/in"
-        read -r ours memory < <(timed "$program" scan "$path")
+        read -r ours memory < <(timed "$program" scan "$@")
         if command -v jq > /dev/null; then
-            read -r theirs _ < <(timed jq -c "$filter")
+            read -r theirs _ < <(timed jq -c "$program_of_jq")
         else
             theirs=0
         fi
-        python3 - "$shape" "$path" "$size" "$ours" "$memory" "$theirs" <<'P'
+        python3 - "$shape" "$*" "$size" "$ours" "$memory" "$theirs" <<'P'
 import sys
-shape, path, size, ours, memory, theirs = sys.argv[1:]
+shape, words, size, ours, memory, theirs = sys.argv[1:]
 ours, theirs = float(ours), float(theirs)
 ratio = f"{ours / theirs:.2f}" if theirs else "-"
-print(f"| {shape} | `{path}` | {size} | {ours:.2f} | {float(size) / max(ours, 0.01):.0f} | {int(memory) / 1000:.1f} | {theirs:.2f} | {ratio} |")
+print(f"| {shape} | `{words}` | {size} | {ours:.2f} | {float(size) / max(ours, 0.01):.0f} | {int(memory) / 1000:.1f} | {theirs:.2f} | {ratio} |")
 P
     done
-done
+}
+
+echo "| input | scan | MB | vstore s | MB/s | peak MB | jq s | ratio |"
+echo "|---|---|---|---|---|---|---|---|"
+row numbers '.a' '$.a'
+row records '.user.name' '$.user.name'
+row records 'select(.amount > 990) | .id' --where '$.amount > 990' '$.id'
+row records 'select(.amount > 99000) | .id' --where '$.amount > 99000' '$.id'
+row records '.tags[0], .user.age, .ts' '$.tags[0]' '$.user.age' '$.ts'
 
 if command -v jq > /dev/null; then
     echo
@@ -70,16 +77,21 @@ if command -v valgrind > /dev/null; then
     echo
     echo "| input | bytes | instructions per byte |"
     echo "|---|---|---|"
-    count() { valgrind --tool=callgrind --callgrind-out-file=/dev/null "$program" scan "$1" < "$work/in" 2>&1 > /dev/null | awk '/Collected/ {print $4}'; }
+    count() { valgrind --tool=callgrind --callgrind-out-file=/dev/null "$program" scan "$@" < "$work/in" 2>&1 > /dev/null | awk '/Collected/ {print $4}'; }
     : > "$work/in"
     start=$(count '$.a')
-    for shape in numbers records; do
-        path='$.a'
-        [ "$shape" = records ] && path='$.user.name'
+    counted() {
+        local shape=$1
+        shift
         python3 "$here/generate.py" "$shape" 1000000 > "$work/in"
         bytes=$(stat -c %s "$work/in")
-        echo "| $shape | $bytes | $(( ($(count "$path") - start) / bytes )) |"
-    done
+        echo "| $shape, \`$*\` | $bytes | $(( ($(count "$@") - start) / bytes )) |"
+    }
+    counted numbers '$.a'
+    counted records '$.user.name'
+    counted records --where '$.amount > 990' '$.id'
+    counted records --where '$.amount > 99000' '$.id'
+    counted records --where '$.tags[*] = "b" and not $.user.age < 30' '$.id' '$.user'
     # one line of growing size: an array of objects, and an object of many members in no order
     for shape in long wide; do
         for size in 125000 250000 500000 1000000; do
@@ -87,5 +99,40 @@ if command -v valgrind > /dev/null; then
             bytes=$(stat -c %s "$work/in")
             echo "| $shape | $bytes | $(( ($(count '$.a') - start) / bytes )) |"
         done
+    done
+
+    # filters of growing size: of terms, of brackets, and of spaces; no input
+    echo
+    echo "| filter | bytes | instructions per byte |"
+    echo "|---|---|---|"
+    : > "$work/in"
+    for count in 64 128 256; do
+        filter=$(python3 -c "print(' or '.join(['\$.user.name = \"u%03d\"' % k for k in range($count)]))")
+        echo "| $count terms | ${#filter} | $(( ($(count --where "$filter" '$') - start) / ${#filter} )) |"
+    done
+    for count in 16 32 64; do
+        filter=$(python3 -c "print('(' * $count + '\$ = 1' + ')' * $count)")
+        echo "| $count brackets | ${#filter} | $(( ($(count --where "$filter" '$') - start) / ${#filter} )) |"
+    done
+    for count in 16000 32000 65000; do
+        filter=$(python3 -c "print('(((\$' + ' ' * $count + '= 1)))')")
+        echo "| $count spaces | ${#filter} | $(( ($(count --where "$filter" '$') - start) / ${#filter} )) |"
+    done
+    for count in 16000 32000 65000; do
+        filter=$(python3 -c "print('\$ = \"' + 'x' * $count + '\"')")
+        echo "| a text of $count letters | ${#filter} | $(( ($(count --where "$filter" '$') - start) / ${#filter} )) |"
+    done
+
+    # one row of 64 members, asked for by more and more paths
+    echo
+    echo "| paths over 4,000 rows of 64 members | instructions per row and path |"
+    echo "|---|---|"
+    python3 -c "
+row = '{' + ','.join(f'\"m{k:02}\":{k}' for k in range(64)) + '}'
+for _ in range(4000): print(row)" > "$work/in"
+    one=$(count '$.m00')
+    for paths in 2 4 8 16 32 64; do
+        words=$(python3 -c "print(' '.join(f'\$.m{k:02}' for k in range($paths)))")
+        echo "| $paths | $(( ($(count $words) - one) / 4000 / (paths - 1) )) |"
     done
 fi

@@ -4,12 +4,19 @@ set -u
 program=$(realpath "$1")
 cd "$(dirname "$0")" || exit 2
 show() {
-    echo "\$ vstore scan '$1' < examples/events.jsonl"
-    "$program" scan "$1" < events.jsonl
+    local word words=""
+    for word in "$@"; do
+        case $word in
+            --*) words+=" $word" ;;
+            *) words+=" '$word'" ;;
+        esac
+    done
+    echo "\$ vstore scan$words < examples/events.jsonl"
+    "$program" scan "$@" < events.jsonl
     status=$?
     [ "$status" = 0 ] || echo "(status $status)"
     echo
 }
-show '$.device'
-show '$.user.name'
-show '$.alarm'
+show '$.device' '$.reading'
+show --where '$.reading > 21 and $.tags[*] = "eu"' '$.device' '$.user.visits'
+show --where '$.alarm exists' '$.device' '$.alarm' '$.tags[*]'

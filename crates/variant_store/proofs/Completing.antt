@@ -1,13 +1,12 @@
 -- Admitted input and no fault of a device give status 0, or 7.
-use Rattle.std.proofs.Common.{◌≡◌, inl, inr, ℕ, List, [], ◌∷◌, refl, subst, Option, Some, None, Result, Ok, Err}
-use Rattle.std.specs.Prelude.{codes}
+use Rattle.std.proofs.Common.{◌≡◌, inl, inr, ℕ, List, refl, Option, Some, None, Result, Ok, Err}
 use Rattle.outside.specs.Devices.{HasCauseAt}
 use Rattle.std.specs.Result.{IsErrOf}
 use Rattle.json_tree.specs.Json.{Json}
 use Rattle.json_lines.specs.Cut.{lines_of}
 use Rattle.exact_json.specs.Documents.{Ending, at_end, HasDocuments, max_input}
 use Rattle.exact_json.proofs.Walks.{walks_once}
-use Rattle.variant_store.specs.Path.{IsPath}
+use Rattle.variant_store.proofs.AskedWords.{not_wrong}
 use Rattle.variant_store.specs.Report.{IsReported}
 use Rattle.variant_store.specs.Top.{Runs, Ends, Completes}
 use Rattle.variant_store.specs.declared.refusal.Refusal.{Refusal}
@@ -16,30 +15,23 @@ use Rattle.variant_store.specs.declared.refusal.Refusal.TheVariants as refusal
 one_ending : (input : List ℕ) (ds es : List Json) (a b : Ending) → HasDocuments input ds a → HasDocuments input es b → a ≡ b
 one_ending input ds es a b f g = (walks_once (lines_of max_input input) 0 ds es a b f g).ending
 
-same_word : (words : List (List ℕ)) (v w : List ℕ) → words ≡ codes "scan" ∷ (v ∷ []) → words ≡ codes "scan" ∷ (w ∷ []) → v ≡ w
-same_word words v w e f = cc
-
 pub completes : (words : List (List ℕ)) (input left old new : Option (List ℕ)) (U : Type 0) (reads reads_now writes writes_now : ℕ) (err_old err_new : Option (List ℕ)) (faults faults_now status : ℕ) → (done : Result (Unit {0}) Refusal)
     → Runs words input left old new U done → HasCauseAt reads reads_now (IsErrOf done refusal.ReadFault) → HasCauseAt writes writes_now (IsErrOf done refusal.WriteFault) → Ends done status err_old err_new faults faults_now
     → Completes words input reads reads_now writes writes_now status
 completes words None left old new U reads reads_now writes writes_now err_old err_new faults faults_now status done r p q e = tt
-completes words (Some i) left old new U reads reads_now writes writes_now err_old err_new faults faults_now status (Ok u) r p q e = λ names ds ask has no_read no_write. inl e.0
-completes words (Some i) left old new U reads reads_now writes writes_now err_old err_new faults faults_now status (Err refusal.Usage) r p q e = λ names ds ask has no_read no_write. absurd (r.0 ask.word ask.are_scan)
-completes words (Some i) left old new U reads reads_now writes writes_now err_old err_new faults faults_now status (Err refusal.BadPath) r p q e = λ names ds ask has no_read no_write.
-    let bad = r.0 in
-    let same = same_word words ask.word bad.word ask.are_scan bad.are_scan in
-    absurd (bad.is_none names (subst (λ (w : List ℕ). IsPath w names) same ask.is_path))
-completes words (Some i) left old new U reads reads_now writes writes_now err_old err_new faults faults_now status (Err (refusal.BadLine n fault)) r p q e = λ names ds ask has no_read no_write.
+completes words (Some i) left old new U reads reads_now writes writes_now err_old err_new faults faults_now status (Ok u) r p q e = λ asked ds ask has no_read no_write. inl e.0
+completes words (Some i) left old new U reads reads_now writes writes_now err_old err_new faults faults_now status (Err (refusal.BadWords fault)) r p q e = λ asked ds ask has no_read no_write. absurd (not_wrong words asked fault ask r.0)
+completes words (Some i) left old new U reads reads_now writes writes_now err_old err_new faults faults_now status (Err (refusal.BadLine n fault)) r p q e = λ asked ds ask has no_read no_write.
     let scans = r.2 in
     let same = one_ending i _ ds _ at_end scans.1 has in
     cc
-completes words (Some i) left old new U reads reads_now writes writes_now err_old err_new faults faults_now status (Err refusal.InputTooLong) r p q e = λ names ds ask has no_read no_write.
+completes words (Some i) left old new U reads reads_now writes writes_now err_old err_new faults faults_now status (Err refusal.InputTooLong) r p q e = λ asked ds ask has no_read no_write.
     let scans = r.2 in
     let same = one_ending i _ ds _ at_end scans.1 has in
     cc
-completes words (Some i) left old new U reads reads_now writes writes_now err_old err_new faults faults_now status (Err refusal.ReadFault) r p q e = λ names ds ask has no_read no_write. absurd (no_read (p.cause refl))
-completes words (Some i) left old new U reads reads_now writes writes_now err_old err_new faults faults_now status (Err refusal.WriteFault) r p q e = λ names ds ask has no_read no_write. absurd (no_write (q.cause refl))
-completes words (Some i) left old new U reads reads_now writes writes_now err_old err_new faults faults_now status (Err refusal.NoMemory) r p q e = λ names ds ask has no_read no_write. inr (seven e)
+completes words (Some i) left old new U reads reads_now writes writes_now err_old err_new faults faults_now status (Err refusal.ReadFault) r p q e = λ asked ds ask has no_read no_write. absurd (no_read (p.cause refl))
+completes words (Some i) left old new U reads reads_now writes writes_now err_old err_new faults faults_now status (Err refusal.WriteFault) r p q e = λ asked ds ask has no_read no_write. absurd (no_write (q.cause refl))
+completes words (Some i) left old new U reads reads_now writes writes_now err_old err_new faults faults_now status (Err refusal.NoMemory) r p q e = λ asked ds ask has no_read no_write. inr (seven e)
   where
     seven : IsReported refusal.NoMemory status err_old err_new faults faults_now → status ≡ 7
     seven (inl h) = h.0

@@ -1,6 +1,5 @@
-pub mod Paths
-pub mod CommandWords
-pub mod Matches
-pub mod Turning
-pub mod Gathering
+pub mod AskedWords
 pub mod Completing
+pub mod Gathering
+pub mod ReadWords
+pub mod Turning

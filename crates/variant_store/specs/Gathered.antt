@@ -6,7 +6,9 @@ use Rattle.json_tree.specs.Json.{Json}
 use Rattle.json_lines.specs.Next.{State, nothing, lines_ahead}
 use Rattle.exact_json.specs.Meaning.{Spells, IsFirstFault}
 use Rattle.exact_json.specs.Documents.{Ending, at_end, at_line, at_limit, Walks, HasDocuments}
-use Rattle.variant_store.specs.Answer.{line_of, answer_of}
+use Rattle.query_tree.specs.Asked.{Asked}
+use Rattle.path_query.specs.Answer.{printed}
+use Rattle.variant_store.specs.Answer.{answer_over}
 use Rattle.variant_store.specs.Scan.{AnswersAll, AnswersRead, AnswersPrefix}
 use Rattle.variant_store.specs.declared.scan.Turn.{Turn}
 use Rattle.variant_store.specs.declared.scan.Turn.TheVariants.{More, Ended}
@@ -29,8 +31,7 @@ Drains old new pending left (Err refusal.NoMemory) = AppendsPrefix old new pendi
 Drains old new pending left (Err (refusal.BadLine n fault)) = ⊥
 Drains old new pending left (Err refusal.InputTooLong) = ⊥
 Drains old new pending left (Err refusal.ReadFault) = ⊥
-Drains old new pending left (Err refusal.Usage) = ⊥
-Drains old new pending left (Err refusal.BadPath) = ⊥
+Drains old new pending left (Err (refusal.BadWords fault)) = ⊥
 
 -- all that was gathered stays gathered or is written, or a prefix of it was written
 abbrev pub DrainsSome : Option (List ℕ) → Option (List ℕ) → List ℕ → List ℕ → Result (Unit {0}) Refusal → Type 0
@@ -40,34 +41,31 @@ DrainsSome old new pending left (Err refusal.NoMemory) = AppendsPrefix old new p
 DrainsSome old new pending left (Err (refusal.BadLine n fault)) = ⊥
 DrainsSome old new pending left (Err refusal.InputTooLong) = ⊥
 DrainsSome old new pending left (Err refusal.ReadFault) = ⊥
-DrainsSome old new pending left (Err refusal.Usage) = ⊥
-DrainsSome old new pending left (Err refusal.BadPath) = ⊥
+DrainsSome old new pending left (Err (refusal.BadWords fault)) = ⊥
 
 -- a document's line was gathered, or the line was refused and nothing was gathered
-abbrev pub GathersLine : List (List ℕ) → ℕ → List ℕ → List ℕ → List ℕ → Result (Unit {0}) Refusal → Type 0
-GathersLine names n line old new (Ok _) = (json : Json) × Spells line json × (new ≡ old ++ line_of names json)
-GathersLine names n line old new (Err (refusal.BadLine m fault)) = (m ≡ n) × IsFirstFault line fault × (new ≡ old)
-GathersLine names n line old new (Err refusal.NoMemory) = new ≡ old
-GathersLine names n line old new (Err refusal.InputTooLong) = ⊥
-GathersLine names n line old new (Err refusal.ReadFault) = ⊥
-GathersLine names n line old new (Err refusal.WriteFault) = ⊥
-GathersLine names n line old new (Err refusal.Usage) = ⊥
-GathersLine names n line old new (Err refusal.BadPath) = ⊥
+abbrev pub GathersLine : Asked → ℕ → List ℕ → List ℕ → List ℕ → Result (Unit {0}) Refusal → Type 0
+GathersLine asked n line old new (Ok _) = (json : Json) × Spells line json × (new ≡ old ++ printed asked (Some json))
+GathersLine asked n line old new (Err (refusal.BadLine m fault)) = (m ≡ n) × IsFirstFault line fault × (new ≡ old)
+GathersLine asked n line old new (Err refusal.NoMemory) = new ≡ old
+GathersLine asked n line old new (Err refusal.InputTooLong) = ⊥
+GathersLine asked n line old new (Err refusal.ReadFault) = ⊥
+GathersLine asked n line old new (Err refusal.WriteFault) = ⊥
+GathersLine asked n line old new (Err (refusal.BadWords fault)) = ⊥
 
 -- what a turn gathers, where the source had `rest` and has `behind`: the line of one more document,
 -- or nothing, and then this is how the walk ends
-abbrev pub TurnsAt : List (List ℕ) → List ℕ → List ℕ → State → State → List ℕ → List ℕ → Result Turn Refusal → Type 0
-TurnsAt names rest behind s t old new (Ok More) = (json : Json) × (new ≡ old ++ line_of names json)
+abbrev pub TurnsAt : Asked → List ℕ → List ℕ → State → State → List ℕ → List ℕ → Result Turn Refusal → Type 0
+TurnsAt asked rest behind s t old new (Ok More) = (json : Json) × (new ≡ old ++ printed asked (Some json))
     × ((more : List Json) (ending : Ending) → Walks (lines_ahead t behind) t.number more ending → Walks (lines_ahead s rest) s.number (json ∷ more) ending)
-TurnsAt names rest behind s t old new (Ok Ended) = Walks (lines_ahead s rest) s.number [] at_end × (new ≡ old)
-TurnsAt names rest behind s t old new (Err (refusal.BadLine n fault)) = Walks (lines_ahead s rest) s.number [] (at_line n fault) × (new ≡ old)
-TurnsAt names rest behind s t old new (Err refusal.InputTooLong) = Walks (lines_ahead s rest) s.number [] at_limit × (new ≡ old)
-TurnsAt names rest behind s t old new (Err refusal.ReadFault) = (new ≡ old) × (Contains t.held 10 → ⊥)
+TurnsAt asked rest behind s t old new (Ok Ended) = Walks (lines_ahead s rest) s.number [] at_end × (new ≡ old)
+TurnsAt asked rest behind s t old new (Err (refusal.BadLine n fault)) = Walks (lines_ahead s rest) s.number [] (at_line n fault) × (new ≡ old)
+TurnsAt asked rest behind s t old new (Err refusal.InputTooLong) = Walks (lines_ahead s rest) s.number [] at_limit × (new ≡ old)
+TurnsAt asked rest behind s t old new (Err refusal.ReadFault) = (new ≡ old) × (Contains t.held 10 → ⊥)
     × ((more : List Json) (ending : Ending) → Walks (lines_ahead t behind) t.number more ending → Walks (lines_ahead s rest) s.number more ending)
-TurnsAt names rest behind s t old new (Err refusal.NoMemory) = new ≡ old
-TurnsAt names rest behind s t old new (Err refusal.WriteFault) = ⊥
-TurnsAt names rest behind s t old new (Err refusal.Usage) = ⊥
-TurnsAt names rest behind s t old new (Err refusal.BadPath) = ⊥
+TurnsAt asked rest behind s t old new (Err refusal.NoMemory) = new ≡ old
+TurnsAt asked rest behind s t old new (Err refusal.WriteFault) = ⊥
+TurnsAt asked rest behind s t old new (Err (refusal.BadWords fault)) = ⊥
 
 -- no turn answers for the output or the words
 abbrev pub IsOfTurn : Result Turn Refusal → Type 0
@@ -77,14 +75,13 @@ IsOfTurn (Err refusal.InputTooLong) = Unit {0}
 IsOfTurn (Err refusal.ReadFault) = Unit {0}
 IsOfTurn (Err refusal.NoMemory) = Unit {0}
 IsOfTurn (Err refusal.WriteFault) = ⊥
-IsOfTurn (Err refusal.Usage) = ⊥
-IsOfTurn (Err refusal.BadPath) = ⊥
+IsOfTurn (Err (refusal.BadWords fault)) = ⊥
 
 -- the same where the input may be unknown
-abbrev pub Turns : List (List ℕ) → Option (List ℕ) → Option (List ℕ) → State → State → List ℕ → List ℕ → Result Turn Refusal → Type 0
-Turns names None behind s t old new result = Unit {0}
-Turns names (Some rest) None s t old new result = ⊥
-Turns names (Some rest) (Some behind) s t old new result = TurnsAt names rest behind s t old new result
+abbrev pub Turns : Asked → Option (List ℕ) → Option (List ℕ) → State → State → List ℕ → List ℕ → Result Turn Refusal → Type 0
+Turns asked None behind s t old new result = Unit {0}
+Turns asked (Some rest) None s t old new result = ⊥
+Turns asked (Some rest) (Some behind) s t old new result = TurnsAt asked rest behind s t old new result
 
 -- a turn that leaves more to do keeps no answer, and leaves less of what still counts
 abbrev pub GoesOn : State → State → Result Turn Refusal → Type 0
@@ -94,37 +91,36 @@ GoesOn s t (Err fault) = Unit {0}
 
 -- the lines of the documents so far were gathered, and whatever documents the lines ahead have, the
 -- input has those after the documents so far
-pub record StandsAt (names : List (List ℕ)) (input rest : List ℕ) (state : State) (old new : Option (List ℕ)) (pending : List ℕ) : Type 0 where
+pub record StandsAt (asked : Asked) (input rest : List ℕ) (state : State) (old new : Option (List ℕ)) (pending : List ℕ) : Type 0 where
   pub documents : List Json
-  pub gathers : Appends old (gathered new pending) (answer_of names documents)
+  pub gathers : Appends old (gathered new pending) (answer_over asked documents)
   pub ahead : (more : List Json) (ending : Ending) → Walks (lines_ahead state rest) state.number more ending → HasDocuments input (documents ++ more) ending
 
 -- the same where the input may be unknown
-abbrev pub StandsKnown : List (List ℕ) → Option (List ℕ) → Option (List ℕ) → State → Option (List ℕ) → Option (List ℕ) → List ℕ → Type 0
-StandsKnown names None rest state old new pending = Unit {0}
-StandsKnown names (Some input) None state old new pending = ⊥
-StandsKnown names (Some input) (Some rest) state old new pending = StandsAt names input rest state old new pending
+abbrev pub StandsKnown : Asked → Option (List ℕ) → Option (List ℕ) → State → Option (List ℕ) → Option (List ℕ) → List ℕ → Type 0
+StandsKnown asked None rest state old new pending = Unit {0}
+StandsKnown asked (Some input) None state old new pending = ⊥
+StandsKnown asked (Some input) (Some rest) state old new pending = StandsAt asked input rest state old new pending
 
-pub record Stands (names : List (List ℕ)) (input rest : Option (List ℕ)) (state : State) (old new : Option (List ℕ)) (pending : List ℕ) : Type 0 where
+pub record Stands (asked : Asked) (input rest : Option (List ℕ)) (state : State) (old new : Option (List ℕ)) (pending : List ℕ) : Type 0 where
   pub kept : state.kept ≡ nothing
   pub extends : Extends old new
-  pub known : StandsKnown names input rest state old new pending
+  pub known : StandsKnown asked input rest state old new pending
 
 -- what a walk over the lines has gathered, by how it ends
-abbrev pub Gathers : List (List ℕ) → List ℕ → Option (List ℕ) → Option (List ℕ) → Option (List ℕ) → List ℕ → Result (Unit {0}) Refusal → Type 0
-Gathers names input left old new pending (Ok _) = AnswersAll names input at_end old (gathered new pending)
-Gathers names input left old new pending (Err (refusal.BadLine n fault)) = AnswersAll names input (at_line n fault) old (gathered new pending)
-Gathers names input left old new pending (Err refusal.InputTooLong) = AnswersAll names input at_limit old (gathered new pending)
-Gathers names input left old new pending (Err refusal.ReadFault) = AnswersRead names input left old (gathered new pending)
-Gathers names input left old new pending (Err refusal.WriteFault) = AnswersPrefix names input old new
-Gathers names input left old new pending (Err refusal.NoMemory) = AnswersPrefix names input old new
-Gathers names input left old new pending (Err refusal.Usage) = ⊥
-Gathers names input left old new pending (Err refusal.BadPath) = ⊥
+abbrev pub Gathers : Asked → List ℕ → Option (List ℕ) → Option (List ℕ) → Option (List ℕ) → List ℕ → Result (Unit {0}) Refusal → Type 0
+Gathers asked input left old new pending (Ok _) = AnswersAll asked input at_end old (gathered new pending)
+Gathers asked input left old new pending (Err (refusal.BadLine n fault)) = AnswersAll asked input (at_line n fault) old (gathered new pending)
+Gathers asked input left old new pending (Err refusal.InputTooLong) = AnswersAll asked input at_limit old (gathered new pending)
+Gathers asked input left old new pending (Err refusal.ReadFault) = AnswersRead asked input left old (gathered new pending)
+Gathers asked input left old new pending (Err refusal.WriteFault) = AnswersPrefix asked input old new
+Gathers asked input left old new pending (Err refusal.NoMemory) = AnswersPrefix asked input old new
+Gathers asked input left old new pending (Err (refusal.BadWords fault)) = ⊥
 
 -- the same where the input may be unknown
-abbrev pub GathersKnown : List (List ℕ) → Option (List ℕ) → Option (List ℕ) → Option (List ℕ) → Option (List ℕ) → List ℕ → Result (Unit {0}) Refusal → Type 0
-GathersKnown names None left old new pending result = Unit {0}
-GathersKnown names (Some input) left old new pending result = Gathers names input left old new pending result
+abbrev pub GathersKnown : Asked → Option (List ℕ) → Option (List ℕ) → Option (List ℕ) → Option (List ℕ) → List ℕ → Result (Unit {0}) Refusal → Type 0
+GathersKnown asked None left old new pending result = Unit {0}
+GathersKnown asked (Some input) left old new pending result = Gathers asked input left old new pending result
 
 -- what was known before stays, where no write was refused
 abbrev pub StillExtends : Option (List ℕ) → Option (List ℕ) → Result (Unit {0}) Refusal → Type 0
@@ -134,8 +130,7 @@ StillExtends old new (Err refusal.InputTooLong) = Extends old new
 StillExtends old new (Err refusal.ReadFault) = Extends old new
 StillExtends old new (Err refusal.WriteFault) = Unit {0}
 StillExtends old new (Err refusal.NoMemory) = Unit {0}
-StillExtends old new (Err refusal.Usage) = Unit {0}
-StillExtends old new (Err refusal.BadPath) = Unit {0}
+StillExtends old new (Err (refusal.BadWords fault)) = Unit {0}
 
 -- whether the output was cut off, so that nothing more is written
 abbrev pub cuts_off : Result (Unit {0}) Refusal → Bool
@@ -145,8 +140,7 @@ cuts_off (Err refusal.InputTooLong) = false
 cuts_off (Err refusal.ReadFault) = false
 cuts_off (Err refusal.WriteFault) = true
 cuts_off (Err refusal.NoMemory) = true
-cuts_off (Err refusal.Usage) = true
-cuts_off (Err refusal.BadPath) = true
+cuts_off (Err (refusal.BadWords fault)) = true
 
 -- no scan answers for the words
 abbrev pub IsOfScan : Result (Unit {0}) Refusal → Type 0
@@ -156,5 +150,4 @@ IsOfScan (Err refusal.InputTooLong) = Unit {0}
 IsOfScan (Err refusal.ReadFault) = Unit {0}
 IsOfScan (Err refusal.WriteFault) = Unit {0}
 IsOfScan (Err refusal.NoMemory) = Unit {0}
-IsOfScan (Err refusal.Usage) = ⊥
-IsOfScan (Err refusal.BadPath) = ⊥
+IsOfScan (Err (refusal.BadWords fault)) = ⊥

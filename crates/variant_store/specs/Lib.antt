@@ -1,7 +1,5 @@
 pub mod Answer
 pub mod Gathered
-pub mod Path
-pub mod PathReading
 pub mod Report
 pub mod Scan
 pub mod Top

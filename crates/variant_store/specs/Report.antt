@@ -3,12 +3,12 @@ use Rattle.std.specs.Prelude.{◌≡◌, ◌⊎◌, ℕ, List, ◌++◌, Option,
 use Rattle.std.specs.Io.KnownBytes.{Appends}
 use Rattle.outside.specs.Devices.{Rose, AppendsPrefix}
 use Rattle.exact_json.specs.Faults.{name_of}
+use Rattle.variant_store.specs.declared.refusal.BadWords.TheVariants.{Usage, BadFilter, BadOrder, BadPath, RepeatedPath}
 use Rattle.variant_store.specs.declared.refusal.Refusal.{Refusal}
-use Rattle.variant_store.specs.declared.refusal.Refusal.TheVariants.{Usage, BadPath, BadLine, InputTooLong, ReadFault, WriteFault, NoMemory}
+use Rattle.variant_store.specs.declared.refusal.Refusal.TheVariants.{BadWords, BadLine, InputTooLong, ReadFault, WriteFault, NoMemory}
 
 abbrev pub status_of : Refusal → ℕ
-status_of Usage = 2
-status_of BadPath = 2
+status_of (BadWords fault) = 2
 status_of (BadLine line fault) = 3
 status_of InputTooLong = 3
 status_of ReadFault = 5
@@ -17,8 +17,11 @@ status_of NoMemory = 7
 
 -- the line, with its LF
 abbrev pub message_of : Refusal → List ℕ
-message_of Usage = codes "vstore: usage\n"
-message_of BadPath = codes "vstore: bad path\n"
+message_of (BadWords Usage) = codes "vstore: usage\n"
+message_of (BadWords BadFilter) = codes "vstore: bad filter\n"
+message_of (BadWords BadOrder) = codes "vstore: bad order\n"
+message_of (BadWords BadPath) = codes "vstore: bad path\n"
+message_of (BadWords RepeatedPath) = codes "vstore: repeated path\n"
 message_of (BadLine line fault) = codes "vstore: line " ++ decimal line ++ codes ": " ++ name_of fault ++ codes "\n"
 message_of InputTooLong = codes "vstore: input too long\n"
 message_of ReadFault = codes "vstore: read fault\n"

@@ -4,7 +4,8 @@ use Rattle.std.specs.Io.KnownBytes.{Keeps}
 use Rattle.outside.specs.Devices.{Rose, HasCauseAt}
 use Rattle.json_tree.specs.Json.{Json}
 use Rattle.exact_json.specs.Documents.{at_end, HasDocuments}
-use Rattle.variant_store.specs.Words.{AskScan, AskBadPath, AskNothing}
+use Rattle.query_tree.specs.Asked.{Asked}
+use Rattle.variant_store.specs.Words.{AskScan, AskWrongly}
 use Rattle.variant_store.specs.Scan.{Scans}
 use Rattle.variant_store.specs.Report.{IsReported}
 use Rattle.variant_store.specs.declared.refusal.Refusal.{Refusal}
@@ -12,13 +13,12 @@ use Rattle.variant_store.specs.declared.refusal.Refusal.TheVariants as refusal
 
 -- the words ask for a scan, and it went as it ends
 abbrev pub RunsScan : List (List ℕ) → Option (List ℕ) → Option (List ℕ) → Option (List ℕ) → Option (List ℕ) → Result (Unit {0}) Refusal → Type 0
-RunsScan words input left old new done = (names : List (List ℕ)) × AskScan words names × Scans names input left old new done
+RunsScan words input left old new done = (asked : Asked) × AskScan words asked × Scans asked input left old new done
 
 -- by how a call ends; the words are judged before any device is called
 abbrev pub Runs : List (List ℕ) → Option (List ℕ) → Option (List ℕ) → Option (List ℕ) → Option (List ℕ) → Type 0 → Result (Unit {0}) Refusal → Type 0
 Runs words input left old new Untouched (Ok u) = RunsScan words input left old new (Ok u)
-Runs words input left old new Untouched (Err refusal.Usage) = AskNothing words × Untouched
-Runs words input left old new Untouched (Err refusal.BadPath) = AskBadPath words × Untouched
+Runs words input left old new Untouched (Err (refusal.BadWords fault)) = AskWrongly words fault × Untouched
 Runs words input left old new Untouched (Err (refusal.BadLine n fault)) = RunsScan words input left old new (Err (refusal.BadLine n fault))
 Runs words input left old new Untouched (Err refusal.InputTooLong) = RunsScan words input left old new (Err refusal.InputTooLong)
 Runs words input left old new Untouched (Err refusal.ReadFault) = RunsScan words input left old new (Err refusal.ReadFault)
@@ -42,4 +42,4 @@ pub record IsAnswer (words : List (List ℕ)) (input left old new : Option (List
 abbrev pub Completes : List (List ℕ) → Option (List ℕ) → ℕ → ℕ → ℕ → ℕ → ℕ → Type 0
 Completes words None reads reads_now writes writes_now status = Unit {0}
 Completes words (Some input) reads reads_now writes writes_now status =
-    (names : List (List ℕ)) (documents : List Json) → AskScan words names → HasDocuments input documents at_end → (Rose reads reads_now → ⊥) → (Rose writes writes_now → ⊥) → (status ≡ 0) ⊎ (status ≡ 7)
+    (asked : Asked) (documents : List Json) → AskScan words asked → HasDocuments input documents at_end → (Rose reads reads_now → ⊥) → (Rose writes writes_now → ⊥) → (status ≡ 0) ⊎ (status ≡ 7)

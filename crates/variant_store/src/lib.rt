@@ -1,8 +1,6 @@
 //! The top call.
 #![tactic(auto)]
 
-mod answering;
-mod path;
 mod refusal;
 mod scan;
 mod top;

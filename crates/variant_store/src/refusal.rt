@@ -7,13 +7,26 @@ use exact_json::DocFault;
 use outside::{Sink, SinkError, write_all};
 use std::alloc::{AllocError, Global};
 
+/// What is wrong with the words of a call. It is found before any device is called, in this order.
+#[derive(Clone, Copy, PartialEq, Eq, Debug, Drop)]
+pub enum BadWords {
+    /// They name no command, or aren't those that it takes.
+    Usage,
+    /// The filter isn't in its grammar.
+    BadFilter,
+    /// Some relation of the filter doesn't suit its literal.
+    BadOrder,
+    /// A path isn't in its grammar.
+    BadPath,
+    /// Two paths have one canonical text.
+    RepeatedPath,
+}
+
 /// Why a call ends with another status than 0.
 #[derive(Clone, Copy, PartialEq, Eq, Debug, Drop)]
 pub enum Refusal {
-    /// The words name no command, or aren't as many as it takes.
-    Usage,
-    /// The path isn't in its grammar.
-    BadPath,
+    /// The words ask for nothing.
+    BadWords(BadWords),
     /// A line that isn't blank has a fault. Lines are counted from 1.
     BadLine { line: u64, fault: DocFault },
     /// The input has more than 2^40 bytes.
@@ -24,6 +37,19 @@ pub enum Refusal {
     WriteFault,
     /// An allocation was refused.
     NoMemory,
+}
+
+/// The line for words that ask for nothing.
+fn bad_words_message(alloc: Global, fault: BadWords) -> Result<String, AllocError>
+    ensures { IfOk result (λ message. string_bytes message ≡ message_of (Refusal.BadWords fault)) }
+{
+    match fault {
+        BadWords::Usage => String::from_str(alloc, "vstore: usage\n"),
+        BadWords::BadFilter => String::from_str(alloc, "vstore: bad filter\n"),
+        BadWords::BadOrder => String::from_str(alloc, "vstore: bad order\n"),
+        BadWords::BadPath => String::from_str(alloc, "vstore: bad path\n"),
+        BadWords::RepeatedPath => String::from_str(alloc, "vstore: repeated path\n"),
+    }
 }
 
 /// The line for a line that has a fault.
@@ -42,7 +68,7 @@ impl Refusal {
         ensures { result ≡ status_of self }
     {
         match self {
-            Refusal::Usage | Refusal::BadPath => 2,
+            Refusal::BadWords(_) => 2,
             Refusal::BadLine { .. } | Refusal::InputTooLong => 3,
             Refusal::ReadFault => 5,
             Refusal::WriteFault => 6,
@@ -55,8 +81,7 @@ impl Refusal {
         ensures { IfOk result (λ message. string_bytes message ≡ message_of self) }
     {
         match self {
-            Refusal::Usage => String::from_str(alloc, "vstore: usage\n"),
-            Refusal::BadPath => String::from_str(alloc, "vstore: bad path\n"),
+            Refusal::BadWords(fault) => bad_words_message(alloc, fault),
             Refusal::BadLine { line, fault } => bad_line_message(alloc, line, fault),
             Refusal::InputTooLong => String::from_str(alloc, "vstore: input too long\n"),
             Refusal::ReadFault => String::from_str(alloc, "vstore: read fault\n"),

@@ -7,14 +7,14 @@ ghost use Rattle.std.specs.Prelude.{◌≡◌, [], IfOk, OnOk, IsErrOf};
 ghost use Rattle.outside.specs.Devices.{HasCauseAt};
 ghost use Rattle.json_lines.specs.Next.{nothing};
 ghost use Rattle.exact_json.specs.Documents.{max_input};
+ghost use Rattle.query_tree.specs.Asked.{asked};
 ghost use Rattle.variant_store.specs.Scan.{Scans};
 ghost use Rattle.variant_store.specs.Gathered.{Drains, DrainsSome, GathersLine, Turns, GoesOn, GathersKnown, StillExtends, IsOfTurn, IsOfScan, cuts_off};
 
-use crate::answering::print_line;
-use crate::path::Path;
 use crate::refusal::Refusal;
 use exact_json::{DocFault, LineFault, Lines, Next, read_line};
 use outside::{Sink, SinkError, Source, write_all};
+use path_query::{Query, print_row};
 use std::alloc::Global;
 use vs_bytes::NoMemory;
 
@@ -61,18 +61,18 @@ fn drain_piece<O: Sink>(pending: &mut Vec<u8>, out: &mut O) -> Result<(), Refusa
     drain(pending, out)
 }
 
-/// Gathers the printed line of the document in line `line`. After an `Err` nothing was gathered.
+/// Gathers what is printed for the document in line `line`. After an `Err` nothing was gathered.
 fn gather(
     alloc: Global,
-    path: &Path,
+    query: &Query,
     line: u64,
     bytes: &[u8],
     pending: &mut Vec<u8>,
 ) -> Result<(), Refusal>
-    ensures { GathersLine path.now.steps.items line bytes.now pending.old.items pending.new.items result }
+    ensures { GathersLine (asked query.now) line bytes.now pending.old.items pending.new.items result }
 {
     match read_line(alloc, bytes) {
-        Ok(tree) => match print_line(pending, path, &tree) {
+        Ok(tree) => match print_row(pending, query, Some(&tree)) {
             Ok(()) => Ok(()),
             Err(NoMemory) => Err(Refusal::NoMemory),
         },
@@ -84,13 +84,13 @@ fn gather(
 /// Takes the next line that isn't blank, and gathers what it prints.
 fn take_turn<I: Source>(
     alloc: Global,
-    path: &Path,
+    query: &Query,
     lines: &mut Lines,
     input: &mut I,
     pending: &mut Vec<u8>,
 ) -> Result<Turn, Refusal>
     requires { lines.old.kept ≡ nothing }
-    ensures turns { Turns path.now.steps.items (I.left input.old) (I.left input.new) lines.old lines.new pending.old.items pending.new.items result }
+    ensures turns { Turns (asked query.now) (I.left input.old) (I.left input.new) lines.old lines.new pending.old.items pending.new.items result }
     ensures goes_on { GoesOn lines.old lines.new result }
     ensures answers { IsOfTurn result }
     ensures cause { HasCauseAt (I.faults input.old) (I.faults input.new) (IsErrOf result Refusal.ReadFault) }
@@ -98,7 +98,7 @@ fn take_turn<I: Source>(
 {
     match lines.next(input) {
         Ok(Next::Line { number, bytes }) => {
-            match gather(alloc, path, number, bytes.as_slice(), pending) {
+            match gather(alloc, query, number, bytes.as_slice(), pending) {
                 Ok(()) => Ok(Turn::More),
                 Err(refusal) => Err(refusal),
             }
@@ -119,7 +119,7 @@ fn take_turn<I: Source>(
 /// What is still gathered at the end isn't written.
 fn walk<I: Source, O: Sink>(
     alloc: Global,
-    path: &Path,
+    query: &Query,
     lines: &mut Lines,
     input: &mut I,
     pending: &mut Vec<u8>,
@@ -127,7 +127,7 @@ fn walk<I: Source, O: Sink>(
 ) -> Result<(), Refusal>
     requires start { lines.old ≡ record { number = 0; room = max_input; held = []; kept = nothing } }
     requires none { pending.old.items ≡ [] }
-    ensures gathers { GathersKnown path.now.steps.items (I.left input.old) (I.left input.new) (O.written out.old) (O.written out.new) pending.new.items result }
+    ensures gathers { GathersKnown (asked query.now) (I.left input.old) (I.left input.new) (O.written out.old) (O.written out.new) pending.new.items result }
     ensures extends { StillExtends (O.written out.old) (O.written out.new) result }
     ensures answers { IsOfScan result }
     ensures read_cause { HasCauseAt (I.faults input.old) (I.faults input.new) (IsErrOf result Refusal.ReadFault) }
@@ -139,7 +139,7 @@ fn walk<I: Source, O: Sink>(
             Ok(()) => {}
             Err(refusal) => return Err(refusal),
         }
-        match take_turn(alloc, path, lines, input, pending) {
+        match take_turn(alloc, query, lines, input, pending) {
             Ok(Turn::More) => {}
             Ok(Turn::Ended) => return Ok(()),
             Err(refusal) => return Err(refusal),
@@ -154,7 +154,7 @@ fn cuts_off(done: Result<(), Refusal>) -> bool
     match done {
         Ok(()) => false,
         Err(Refusal::BadLine { .. } | Refusal::InputTooLong | Refusal::ReadFault) => false,
-        Err(Refusal::WriteFault | Refusal::NoMemory | Refusal::Usage | Refusal::BadPath) => true,
+        Err(Refusal::WriteFault | Refusal::NoMemory | Refusal::BadWords(_)) => true,
     }
 }
 
@@ -164,11 +164,11 @@ fn cuts_off(done: Result<(), Refusal>) -> bool
 /// or there is no memory.
 pub fn scan<I: Source, O: Sink>(
     alloc: Global,
-    path: &Path,
+    query: &Query,
     input: &mut I,
     out: &mut O,
 ) -> Result<(), Refusal>
-    ensures writes { Scans path.now.steps.items (I.left input.old) (I.left input.new) (O.written out.old) (O.written out.new) result }
+    ensures writes { Scans (asked query.now) (I.left input.old) (I.left input.new) (O.written out.old) (O.written out.new) result }
     ensures answers { IsOfScan result }
     ensures read_cause { HasCauseAt (I.faults input.old) (I.faults input.new) (IsErrOf result Refusal.ReadFault) }
     ensures write_cause { HasCauseAt (O.faults out.old) (O.faults out.new) (IsErrOf result Refusal.WriteFault) }
@@ -179,7 +179,7 @@ pub fn scan<I: Source, O: Sink>(
         Err(_) => return Err(Refusal::NoMemory),
     };
     let mut pending = Vec::new(alloc);
-    let done = walk(alloc, path, &mut lines, input, &mut pending, out);
+    let done = walk(alloc, query, &mut lines, input, &mut pending, out);
     if cuts_off(done) {
         return done;
     }

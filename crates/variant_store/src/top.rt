@@ -6,7 +6,7 @@ ghost use Rattle.variant_store.specs.Top.{Runs, RunsScan, IsAnswer, Completes};
 
 use crate::refusal::Refusal;
 use crate::scan::scan;
-use crate::words::asked_path;
+use crate::words::asked_query;
 use outside::{Sink, Source};
 use std::alloc::Global;
 use vs_bytes::Text;
@@ -25,8 +25,8 @@ fn run<I: Source, O: Sink>(
     ensures write_cause { HasCauseAt (O.faults out.old) (O.faults out.new) (IsErrOf result Refusal.WriteFault) }
     ensures steady { OnOk result ((I.faults input.new ≡ I.faults input.old) × (O.faults out.new ≡ O.faults out.old)) }
 {
-    match asked_path(alloc, words) {
-        Ok(path) => scan(alloc, &path, input, out),
+    match asked_query(alloc, words) {
+        Ok(query) => scan(alloc, &query, input, out),
         Err(refusal) => Err(refusal),
     }
 }
@@ -35,13 +35,13 @@ fn run<I: Source, O: Sink>(
 ///
 /// | Words | What it does |
 /// |---|---|
-/// | `scan PATH` | prints the match of the path in each document of the input |
+/// | `scan [--where FILTER] PATH..` | prints the matches of 1 to 64 paths in each document of the input on which the filter holds |
 ///
 /// | Status | Line on `err` | Where |
 /// |---|---|---|
 /// | 0 | none | the job was done, the input was read to its end, and no read or write failed |
-/// | 2 | `vstore: usage` | the words have no such command |
-/// | 2 | `vstore: bad path` | the path isn't in its grammar |
+/// | 2 | `vstore: usage` | the words aren't those of a command |
+/// | 2 | `vstore: bad filter`, `vstore: bad order`, `vstore: bad path`, `vstore: repeated path` | the filter isn't in its grammar; a relation in it doesn't suit its literal; a path isn't in its grammar; two paths have one canonical text |
 /// | 3 | `vstore: line N: FAULT` | line N is the first that has a fault ([`DocFault`]); all lines before it are answered |
 /// | 3 | `vstore: input too long` | more than 2^40 bytes came |
 /// | 5 | `vstore: read fault` | a read failed; the lines before are answered |

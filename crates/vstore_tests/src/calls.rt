@@ -6,6 +6,7 @@ use json_tree::{
     Items, Members, MembersFault, Number, Tree, copy, depth, print, print_text, same, text_len,
 };
 use outside::{MemSink, MemSource, Sink, Source, StdSink, StdSource, write_all};
+use path_query::{PathList, Query, at, holds, line, parse_filter, parse_path};
 use std::cmp::Ordering;
 use std::test::Fail;
 use vs_bytes::{Bytes, Text};
@@ -189,5 +190,63 @@ fn a_string_is_read_from_its_place(rt: HostRuntime) -> Result<(), Fail> {
             Err(StringFault::LoneSurrogate)
         )
     );
+    Ok(())
+}
+
+// Asserts what a path finds in a document, printed one behind the other.
+#[test]
+fn the_matches_of_a_path_come_in_order(rt: HostRuntime) -> Result<(), Fail> {
+    let alloc = rt.alloc();
+    let Ok(tree) = read_line(alloc, b"{\"a\":[{\"b\":3},{\"b\":1},7,{\"b\":[2]}]}") else {
+        assert!(&rt; false, "the line is a document");
+        return Ok(());
+    };
+    let Ok(path) = parse_path(alloc, "$.a[*].b") else {
+        assert!(&rt; false, "the text is a path");
+        return Ok(());
+    };
+    let found = at(alloc, &path, Some(&tree))?;
+    let mut text = Vec::new(alloc);
+    for part in found.iter() {
+        print(&mut text, part)?;
+        text.push(b';')?;
+    }
+    assert_eq!(&rt; text.as_slice(), b"3;1;[2];".as_slice());
+    assert_eq!(&rt; path.text(), b"$.a[*].b".as_slice());
+    assert_eq!(&rt; path.key(), b"\"$.a[*].b\"".as_slice());
+    assert_eq!(&rt; path.len(), 3);
+    Ok(())
+}
+
+#[test]
+fn an_absent_row_has_no_match(rt: HostRuntime) -> Result<(), Fail> {
+    let alloc = rt.alloc();
+    let mut paths = PathList::new(alloc);
+    for text in ["$", "$.a", "$[*]"] {
+        let Ok(path) = parse_path(alloc, text) else {
+            assert!(&rt; false, "the text is a path");
+            return Ok(());
+        };
+        assert_eq!(&rt; at(alloc, &path, None)?.len(), 0);
+        paths.push(path)?;
+    }
+    let query = Query {
+        filter: None,
+        paths,
+    };
+    let mut text = Vec::new(alloc);
+    line(&mut text, &query, None)?;
+    assert_eq!(&rt; text.as_slice(), b"{\"$[*]\":[]}\n".as_slice());
+    for (filter, wanted) in [
+        ("$ exists", false),
+        ("$ missing", true),
+        ("not $ = 1", true),
+    ] {
+        let Ok(filter) = parse_filter(alloc, filter) else {
+            assert!(&rt; false, "the text is a filter");
+            return Ok(());
+        };
+        assert_eq!(&rt; holds(&filter, None), wanted);
+    }
     Ok(())
 }

@@ -5,6 +5,7 @@
 //! | Module | What it shows |
 //! |---|---|
 //! | `rows` | words and input, and what is printed |
+//! | `queries` | words, paths and filters: what a query answers, and which words are none |
 //! | `devices` | each read and each write failing in turn, and sources and sinks in pieces |
 //! | `calls` | public calls of the libraries on their happy path |
 #![tactic(auto)]
@@ -13,6 +14,8 @@
 mod calls;
 #[cfg(test)]
 mod devices;
+#[cfg(test)]
+mod queries;
 #[cfg(test)]
 mod rows;
 #[cfg(test)]

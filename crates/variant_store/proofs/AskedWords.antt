@@ -1,0 +1,88 @@
+-- Words that ask for a query aren't wrong.
+use Rattle.std.proofs.Common.{◌≡◌, refl, sym, subst, ℕ, zero, suc, ◌<◌, List, [], ◌∷◌, length, get_or, arith, true, false, Option, None, Some}
+use Rattle.command_words.specs.Scan.{Given, scan_words}
+use Rattle.query_tree.specs.Asked.{Asked}
+use Rattle.query_tree.specs.Formula.{Formula, is_suited}
+use Rattle.query_tree.specs.declared.step.Step.{Step}
+use Rattle.path_grammar.specs.Grammar.{IsPath}
+use Rattle.path_grammar.proofs.Texts.{paths_are_one}
+use Rattle.filter_grammar.specs.Grammar.{IsFilter}
+use Rattle.filter_grammar.proofs.Texts.{filter_one}
+use Rattle.variant_store.specs.Words.{GiveScan, AsksFilter, ArePaths, is_repeated, IsAsked, LacksFilter, HasUnsuited, LacksPath, IsWrong, AskScan, AskWrongly}
+use Rattle.variant_store.specs.declared.refusal.BadWords.{BadWords}
+use Rattle.variant_store.specs.declared.refusal.BadWords.TheVariants.{Usage, BadFilter, BadOrder, BadPath, RepeatedPath}
+
+one_given : (words : List (List ℕ)) (g h : Given) → GiveScan words g → GiveScan words h → g ≡ h
+one_given words g h a b =
+    let p = a.are_scan in
+    let q = b.are_scan in
+    let rest : a.rest ≡ b.rest = cc in
+    let same : scan_words a.rest ≡ Some h = subst (λ (ws : List (List ℕ)). scan_words ws ≡ Some h) (sym rest) b.are_given in
+    let here = a.are_given in
+    cc
+
+has_filter : (given : Option (List ℕ)) (filter : Option Formula) → AsksFilter given filter → LacksFilter given → ⊥
+has_filter None filter h k = let none = k.is_given in cc
+has_filter (Some text) None h k = absurd h
+has_filter (Some text) (Some f) h k =
+    let given = k.is_given in
+    let same : text ≡ k.text = cc in
+    k.is_none f (subst (λ (t : List ℕ). IsFilter t f) same h.0)
+
+is_filter_suited : (given : Option (List ℕ)) (filter : Option Formula) → AsksFilter given filter → HasUnsuited given → ⊥
+is_filter_suited None filter h k = let none = k.is_given in cc
+is_filter_suited (Some text) None h k = absurd h
+is_filter_suited (Some text) (Some f) h k =
+    let given = k.is_given in
+    let same : text ≡ k.text = cc in
+    let one : f ≡ k.formula = filter_one k.text f k.formula (subst (λ (t : List ℕ). IsFilter t f) same h.0) k.is_filter in
+    let suited : is_suited k.formula ≡ true = subst (λ (g : Formula). is_suited g ≡ true) one h.1 in
+    let unsuited = k.is_unsuited in
+    cc
+
+path_at : (texts : List (List ℕ)) (paths : List (List Step)) → ArePaths texts paths → (k : ℕ) → k < length texts → (text : List ℕ) → get_or texts k text ≡ text → (steps : List Step) × IsPath text steps
+path_at [] paths h k less text e = absurd (omega arith)
+path_at (t ∷ texts) [] h k less text e = absurd h
+path_at (t ∷ texts) (steps ∷ paths) h zero less text e = (steps, subst (λ (s : List ℕ). IsPath s steps) e h.0)
+path_at (t ∷ texts) (steps ∷ paths) h (suc k) less text e = path_at texts paths h.1 k (omega arith) text e
+
+all_are_paths : (texts : List (List ℕ)) (paths : List (List Step)) → ArePaths texts paths → LacksPath texts → ⊥
+all_are_paths texts paths h k =
+    let place = k.is_given in
+    let found = path_at texts paths h place.0 place.1 k.text place.2 in
+    k.is_none found.0 found.1
+
+same_paths : (texts : List (List ℕ)) (ps qs : List (List Step)) → ArePaths texts ps → ArePaths texts qs → ps ≡ qs
+same_paths [] [] [] h k = refl
+same_paths [] [] (q ∷ qs) h k = absurd k
+same_paths [] (p ∷ ps) qs h k = absurd h
+same_paths (t ∷ texts) [] qs h k = absurd h
+same_paths (t ∷ texts) (p ∷ ps) [] h k = absurd k
+same_paths (t ∷ texts) (p ∷ ps) (q ∷ qs) h k =
+    let first = paths_are_one t p q h.0 k.0 in
+    let others = same_paths texts ps qs h.1 k.1 in
+    cc
+
+is_not_wrong : (given : Given) (asked : Asked) (fault : BadWords) → IsAsked given asked → IsWrong given fault → ⊥
+is_not_wrong given asked Usage h k = k
+is_not_wrong given asked BadFilter h k = has_filter given.filter asked.filter h.asks_filter k
+is_not_wrong given asked BadOrder h k = is_filter_suited given.filter asked.filter h.asks_filter k
+is_not_wrong given asked BadPath h k = all_are_paths given.paths asked.paths h.are_paths k.1
+is_not_wrong given asked RepeatedPath h k =
+    let twice = k.1 in
+    let same = same_paths given.paths asked.paths twice.paths h.are_paths twice.are_paths in
+    let unlike : is_repeated twice.paths ≡ false = subst (λ (ps : List (List Step)). is_repeated ps ≡ false) same h.unlike in
+    let is_twice = twice.is_twice in
+    cc
+
+given_not_wrong : (words : List (List ℕ)) (asked : Asked) (fault : BadWords) → AskScan words asked → (given : Given) × GiveScan words given × IsWrong given fault → ⊥
+given_not_wrong words asked fault ask wrong =
+    let same : ask.0 ≡ wrong.0 = one_given words ask.0 wrong.0 ask.1 wrong.1 in
+    is_not_wrong wrong.0 asked fault (subst (λ (g : Given). IsAsked g asked) same ask.2) wrong.2
+
+pub not_wrong : (words : List (List ℕ)) (asked : Asked) (fault : BadWords) → AskScan words asked → AskWrongly words fault → ⊥
+not_wrong words asked Usage ask wrong = wrong ask.0 ask.1
+not_wrong words asked BadFilter ask wrong = given_not_wrong words asked BadFilter ask wrong
+not_wrong words asked BadOrder ask wrong = given_not_wrong words asked BadOrder ask wrong
+not_wrong words asked BadPath ask wrong = given_not_wrong words asked BadPath ask wrong
+not_wrong words asked RepeatedPath ask wrong = given_not_wrong words asked RepeatedPath ask wrong

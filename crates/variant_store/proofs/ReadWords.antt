@@ -1,0 +1,86 @@
+-- Lemmas on the reading of words.
+use Rattle.std.proofs.Common.{◌≡◌, ◌∙◌, refl, sym, ap, ℕ, ◌+◌, ◌<◌, List, [], ◌∷◌, ◌++◌, length, zero, suc, map, take, get_or, arith, Bool, true, false, not, Result, Ok, Err}
+use Rattle.std.specs.Borrow.{Bor}
+use Rattle.std.specs.Cmp.Lexicographic.{same_text, pointwise}
+use Rattle.std.specs.Prelude.{nat_eq, codes}
+use Rattle.std.proofs.lemmas.List.{map-append}
+use Rattle.command_words.specs.Scan.{Given}
+use Rattle.query_tree.specs.declared.step.Step.{Step}
+use Rattle.query_tree.specs.declared.query.Query.{Query}
+use Rattle.query_tree.specs.declared.path.Path.{Path}
+use Rattle.query_tree.specs.View.{steps_of}
+use Rattle.path_grammar.specs.Grammar.{IsPath}
+use Rattle.variant_store.specs.Words.{GiveScan, ArePaths, PathBy, PathsOf, ScanAsks, Asks}
+use Rattle.variant_store.specs.declared.refusal.BadWords.TheVariants.{Usage, BadFilter, BadOrder, BadPath, RepeatedPath}
+use Rattle.variant_store.specs.declared.refusal.Refusal.{Refusal}
+use Rattle.variant_store.specs.declared.refusal.Refusal.TheVariants as refusal
+
+paths_push : (texts : List (List ℕ)) (paths : List (List Step)) (text : List ℕ) (steps : List Step) → ArePaths texts paths → IsPath text steps → ArePaths (texts ++ text ∷ []) (paths ++ steps ∷ [])
+paths_push [] [] text steps h p = (p, tt)
+paths_push [] (q ∷ paths) text steps h p = absurd h
+paths_push (t ∷ texts) [] text steps h p = absurd h
+paths_push (t ∷ texts) (q ∷ paths) text steps h p = (h.0, paths_push texts paths text steps h.1 p)
+
+take_next : {X : Type 0} (xs : List X) (i : ℕ) (d : X) → i < length xs → take (i + 1) xs ≡ take i xs ++ get_or xs i d ∷ []
+take_next [] i d less = absurd (omega arith)
+take_next (x ∷ xs) zero d less = refl
+take_next (x ∷ xs) (suc i) d less = let next : suc i + 1 ≡ suc (i + 1) = omega arith in rw next (ap (λ ys. x ∷ ys) (take_next xs i d (omega arith)))
+
+abbrev texts_of : List (Bor (List ℕ)) → List (List ℕ)
+texts_of texts = map (λ t. t.now) texts
+
+text_at : (texts : List (Bor (List ℕ))) (i : ℕ) (d : Bor (List ℕ)) (text : List ℕ) → i < length texts → get_or (texts_of texts) i text ≡ (get_or texts i d).now
+text_at [] i d text less = absurd (omega arith)
+text_at (t ∷ texts) zero d text less = refl
+text_at (t ∷ texts) (suc i) d text less = text_at texts i d text (omega arith)
+
+length_texts : (texts : List (Bor (List ℕ))) → length (texts_of texts) ≡ length texts
+length_texts [] = refl
+length_texts (t ∷ texts) = ap suc (length_texts texts)
+
+-- one more path is read
+pub paths_more : (texts : List (Bor (List ℕ))) (i : ℕ) (d : Bor (List ℕ)) (old new : List Path) (path : Path) → i < length texts → new ≡ old ++ path ∷ []
+    → ArePaths (texts_of (take i texts)) (map steps_of old) → IsPath (get_or texts i d).now (steps_of path) → ArePaths (texts_of (take (i + 1) texts)) (map steps_of new)
+paths_more texts i d old new path less grown h p =
+    rw (grown, take_next texts i d less, map-append, map-append) (paths_push (texts_of (take i texts)) (map steps_of old) (get_or texts i d).now (steps_of path) h p)
+
+-- one of the texts is no path
+pub path_wrong : (texts : List (Bor (List ℕ))) (i : ℕ) (d : Bor (List ℕ)) (r : Refusal) → i < length texts → PathBy {A = Path} steps_of (get_or texts i d).now (Err r) → PathsOf {A = List Path} (λ paths. map steps_of paths) (texts_of texts) (Err r)
+path_wrong texts i d (refusal.BadWords Usage) less h = h
+path_wrong texts i d (refusal.BadWords BadFilter) less h = h
+path_wrong texts i d (refusal.BadWords BadOrder) less h = h
+path_wrong texts i d (refusal.BadWords BadPath) less h =
+    record { text = (get_or texts i d).now; is_given = (i, omega (less, length_texts texts, arith), text_at texts i d (get_or texts i d).now less); is_none = h }
+path_wrong texts i d (refusal.BadWords RepeatedPath) less h = h
+path_wrong texts i d refusal.NoMemory less h = tt
+path_wrong texts i d (refusal.BadLine n fault) less h = h
+path_wrong texts i d refusal.InputTooLong less h = h
+path_wrong texts i d refusal.ReadFault less h = h
+path_wrong texts i d refusal.WriteFault less h = h
+
+-- what is given behind `scan` is asked
+pub asks : (words : List (List ℕ)) (given : Given) (r : Result Query Refusal) → GiveScan words given → ScanAsks given r → Asks words r
+asks words given (Ok query) g h = (given, g, h)
+asks words given (Err (refusal.BadWords Usage)) g h = absurd h
+asks words given (Err (refusal.BadWords BadFilter)) g h = (given, g, h)
+asks words given (Err (refusal.BadWords BadOrder)) g h = (given, g, h)
+asks words given (Err (refusal.BadWords BadPath)) g h = (given, g, h)
+asks words given (Err (refusal.BadWords RepeatedPath)) g h = (given, g, h)
+asks words given (Err refusal.NoMemory) g h = tt
+asks words given (Err (refusal.BadLine n fault)) g h = h
+asks words given (Err refusal.InputTooLong) g h = h
+asks words given (Err refusal.ReadFault) g h = h
+asks words given (Err refusal.WriteFault) g h = h
+
+same_bytes : (a b : List ℕ) → not (pointwise nat_eq a b) ≡ false → a ≡ b
+same_bytes a b h = by (pointwise nat_eq a b) refl h
+  where
+    by : (t : Bool) → pointwise nat_eq a b ≡ t → not t ≡ false → a ≡ b
+    by true e f = same_text a b (sym e)
+    by false e f = cc
+
+-- the words are `scan` and others
+pub are_scan : (words : List (List ℕ)) (command bytes scan : List ℕ) (others : List (List ℕ)) → words ≡ command ∷ others → bytes ≡ command → scan ≡ codes "scan" → not (pointwise nat_eq bytes scan) ≡ false → words ≡ codes "scan" ∷ others
+are_scan words command bytes scan others w b s t =
+    let is_scan : command ≡ codes "scan" = sym b ∙ same_bytes bytes scan t ∙ s in
+    w ∙ ap (λ z. z ∷ others) is_scan
