@@ -66,6 +66,11 @@ module _ (word : List ℕ) (join : Written → List ℕ → List ℕ → Written
         is_ahead = a.is_ahead ∙ rw (n, e, ← g, is_read, few) refl;
       }
 
+  -- behind a word, no part
+  pub breaks : (text : List ℕ) (now : Formula × ℕ) (count less : ℕ) (rest ys xs : List ℕ) → Ahead text now count rest → count ≡ suc less → past_whole_word word (past_gap rest) ≡ Some ys → xs ≡ past_gap ys → told_filter (part xs) ≡ None
+      → told_filter (joined_at word join part text) ≡ None
+  breaks text now count less rest ys xs a n e g none = rw (a.is_ahead, n, e, ← g, unread (part xs) none) refl
+
 pub conj_joins : (part : Parse Written) → Joins (codes "and") both conjunction part
 conj_joins part = record { means = λ v before behind w. refl; counts = λ v before behind w. refl }
 
@@ -76,8 +81,6 @@ pub unit_is : (room : ℕ) (xs : List ℕ) → unit_at room xs ≡ unit_by (λ y
 unfolding unit_at
 unit_is zero xs = refl
 unit_is (suc room) xs = refl
-
--- Behind `not`.
 
 -- In brackets.
 

@@ -5,7 +5,7 @@ use Rattle.query_tree.specs.Formula.{conjunction, disjunction}
 use Rattle.filter_grammar.specs.Grammar.{both, either}
 use Rattle.filter_grammar.specs.Parsing.{shown}
 use Rattle.filter_grammar.specs.Reading.{conj_at, unit_at}
-use Rattle.filter_grammar.proofs.ParserParts.{bracketed_is, no_bracketed, conj_joins, filter_joins, turns, hands_on}
+use Rattle.filter_grammar.proofs.ParserParts.{bracketed_is, no_bracketed, conj_joins, filter_joins, turns, breaks, hands_on}
 use Rattle.filter_grammar.proofs.filters.+parser.Goals as goal
 
 pub read_bracketed-returns-in_err-inner : goal.read_bracketed-returns-in_err-inner
@@ -35,3 +35,17 @@ read_filter-loop-turn-preserved t c =
     turns (codes "or") either disjunction (λ ys. conj_at (λ xs. unit_at c.args.room xs) ys) (filter_joins (λ ys. conj_at (λ xs. unit_at c.args.room xs) ys)) c.args.text.now (shown c.loop-turn.left) (shown c.in_ok-right.right) (shown c.in_ok-left-2.left)
     (length c.in_ok-left.rest.now - c.loop-turn.turn) (length c.in_ok-left.rest.now - (c.loop-turn.turn + 1)) c.loop-turn.rest.now c.in-Some.behind.now c.past_spaces-in-loop-turn.result.now c.in_ok-right.after.now
     c.loop-turn.invariant (omega arith) (rw (← c.past_spaces.ensures) c.in-Some.ensures) c.past_spaces-in-loop-turn.ensures c.in_ok-right.ensures.told c.in_ok-left-2.ensures
+
+pub read_conj-returns-in_err-right : goal.read_conj-returns-in_err-right
+read_conj-returns-in_err-right t c = record {
+  told = let p = err_from_is_err_and c.from_residual-in_err-right.result c.from_residual-in_err-right.ensures.1 in rw (p.1, p.2) (hands_on {A = Parsed × Bor (List ℕ)} {C = Parsed × Bor (List ℕ)} (λ x. (shown x.0, x.1.now)) (λ x. (shown x.0, x.1.now)) c.in_err-right.field-0.0 _ _ c.in_err-right.ensures.told (λ none.
+      breaks (codes "and") both conjunction (λ xs. unit_at c.args.room xs) c.args.text.now (shown c.loop-turn.left) (length c.in_ok-left.rest.now - c.loop-turn.turn) (length c.in_ok-left.rest.now - (c.loop-turn.turn + 1)) c.loop-turn.rest.now c.in-Some.behind.now c.past_spaces-in-loop-turn.result.now
+      c.loop-turn.invariant (omega arith) (rw (← c.past_spaces.ensures) c.in-Some.ensures) c.past_spaces-in-loop-turn.ensures none));
+}
+
+pub read_filter-returns-in_err-right : goal.read_filter-returns-in_err-right
+read_filter-returns-in_err-right t c = record {
+  told = let p = err_from_is_err_and c.from_residual-in_err-right.result c.from_residual-in_err-right.ensures.1 in rw (p.1, p.2) (hands_on {A = Parsed × Bor (List ℕ)} {C = Parsed × Bor (List ℕ)} (λ x. (shown x.0, x.1.now)) (λ x. (shown x.0, x.1.now)) c.in_err-right.field-0.0 _ _ c.in_err-right.ensures.told (λ none.
+      breaks (codes "or") either disjunction (λ ys. conj_at (λ xs. unit_at c.args.room xs) ys) c.args.text.now (shown c.loop-turn.left) (length c.in_ok-left.rest.now - c.loop-turn.turn) (length c.in_ok-left.rest.now - (c.loop-turn.turn + 1)) c.loop-turn.rest.now c.in-Some.behind.now c.past_spaces-in-loop-turn.result.now
+      c.loop-turn.invariant (omega arith) (rw (← c.past_spaces.ensures) c.in-Some.ensures) c.past_spaces-in-loop-turn.ensures none));
+}
