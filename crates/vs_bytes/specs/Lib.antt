@@ -1,1 +1,2 @@
+pub mod HeldText
 pub mod Names

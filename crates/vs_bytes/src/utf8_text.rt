@@ -9,22 +9,36 @@ ghost use Rattle.std.specs.Ordering.{nat_cmp, as_partial_cmp};
 ghost use Rattle.std.specs.Str.{IsUtf8};
 
 use crate::memory::NoMemory;
+use arrayvec::ArrayString;
 use std::alloc::Global;
 use std::cmp::Ordering;
 use std::marker::Model;
 
+/// How many bytes a text may have that needs no allocation.
+const SHORT: usize = 16;
+
+// Most names and many values are short.
+#[derive(Debug, Drop)]
+pub(crate) enum Held {
+    Short(ArrayString<SHORT>),
+    Long(String),
+}
+
 /// UTF-8 text, which contracts see as its bytes. Texts are ordered by their bytes.
+///
+/// One of at most 16 bytes takes no allocation.
 #[derive(Debug, Drop)]
 pub struct Text {
-    text: String,
+    held: Held,
 }
 
 impl Model for Text {
-    ghost use Rattle.std.specs.Prelude.{List, ℕ, string_bytes};
+    ghost use Rattle.std.specs.Prelude.{List, ℕ};
+    ghost use Rattle.vs_bytes.specs.HeldText.{held_bytes};
 
     ghost Value = { List ℕ };
 
-    ghost view = { λ t. string_bytes t.text };
+    ghost view = { λ t. held_bytes t.held };
 }
 
 impl Text {
@@ -32,16 +46,20 @@ impl Text {
     pub fn from_str(alloc: Global, text: &str) -> Result<Text, NoMemory>
         ensures { IfOk result (λ t. t ≡ text.now) }
     {
-        Ok(Text {
-            text: String::from_str(alloc, text)?,
-        })
+        let held = match ArrayString::from(text) {
+            Ok(short) => Held::Short(short),
+            Err(_) => Held::Long(String::from_str(alloc, text)?),
+        };
+        Ok(Text { held })
     }
 
     /// The text of a string, which it takes over.
     pub fn from_string(text: String) -> Text
         ensures { result ≡ string_bytes text }
     {
-        Text { text }
+        Text {
+            held: Held::Long(text),
+        }
     }
 
     /// The text of bytes, which it takes over, or `None` where they aren't UTF-8.
@@ -49,7 +67,9 @@ impl Text {
         ensures { SomeIff result (IsUtf8 bytes.items) bytes.items }
     {
         match String::from_utf8(bytes) {
-            Ok(text) => Some(Text { text }),
+            Ok(text) => Some(Text {
+                held: Held::Long(text),
+            }),
             Err(_) => None,
         }
     }
@@ -58,14 +78,17 @@ impl Text {
     pub fn as_str(&self) -> &str
         ensures { result.now ≡ self.now }
     {
-        self.text.as_str()
+        match &self.held {
+            Held::Short(text) => text.as_str(),
+            Held::Long(text) => text.as_str(),
+        }
     }
 
     /// Its bytes in place.
     pub fn as_bytes(&self) -> &[u8]
         ensures { result.now ≡ self.now }
     {
-        self.text.as_bytes()
+        self.as_str().as_bytes()
     }
 }
 
@@ -75,7 +98,7 @@ impl PartialEq for Text {
     ghost laws = { Prim.search (comparing, rules) };
 
     fn eq(&self, other: &Text) -> bool {
-        self.text == other.text
+        self.as_str() == other.as_str()
     }
 }
 
@@ -93,7 +116,7 @@ impl Ord for Text {
     ghost matches_eq = { Prim.search (comparing, rules) };
 
     fn cmp(&self, other: &Text) -> Ordering {
-        self.text.cmp(&other.text)
+        self.as_str().cmp(other.as_str())
     }
 }
 

@@ -17,6 +17,13 @@ fn texts_and_bytes_hold_what_they_were_made_of(rt: HostRuntime) -> Result<(), Fa
     let text = Text::from_str(alloc, "h\u{e9}")?;
     assert_eq!(&rt; text.as_bytes(), [0x68, 0xc3, 0xa9].as_slice());
     assert!(&rt; text < Text::from_str(alloc, "i")?);
+    // 16 bytes lie in the value itself, 17 don't.
+    let short = Text::from_str(alloc, "sixteen bytes ..")?;
+    let long = Text::from_str(alloc, "sixteen bytes ...")?;
+    assert_eq!(&rt; short.as_str(), "sixteen bytes ..");
+    assert_eq!(&rt; long.as_str(), "sixteen bytes ...");
+    assert!(&rt; short < long);
+    assert!(&rt; short == Text::from_string(String::from_str(alloc, "sixteen bytes ..")?));
     let bytes = Bytes::from_slice(alloc, b"\xff\n")?;
     assert_eq!(&rt; bytes.as_slice(), [0xff, 0x0a].as_slice());
     Ok(())
