@@ -13,12 +13,26 @@ pub fn plain_len(text: &[u8]) -> usize
     ensures plain { (k : ℕ) → k < result → is_plain (slice_index text.now k) ≡ true }
     ensures ended { result < length text.now → is_plain (slice_index text.now result) ≡ false }
 {
-    let mut at = 0;
-    while at < text.len() && is_plain_byte(text[at]) {
+    let front = plain_until(text, 0, text.len().min(BLOCK));
+    if front < BLOCK {
+        return front;
+    }
+    plain_until(text, past_blocks(text, front), text.len())
+}
+
+// The place of the first byte from `from` on that doesn't stand for itself, or `end` where there is
+// none before it.
+fn plain_until(text: &[u8], from: usize, end: usize) -> usize
+    requires from { from ≤ end }
+    requires end { end ≤ length text.now }
+    ensures within { result ≤ end }
+    ensures further { from ≤ result }
+    ensures plain { (k : ℕ) → from ≤ k → k < result → is_plain (slice_index text.now k) ≡ true }
+    ensures ended { result < end → is_plain (slice_index text.now result) ≡ false }
+{
+    let mut at = from;
+    while at < end && is_plain_byte(text[at]) {
         at += 1;
-        if at % BLOCK == 0 {
-            at = past_blocks(text, at);
-        }
     }
     at
 }
