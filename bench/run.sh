@@ -130,9 +130,9 @@ if command -v valgrind > /dev/null; then
     python3 -c "
 row = '{' + ','.join(f'\"m{k:02}\":{k}' for k in range(64)) + '}'
 for _ in range(4000): print(row)" > "$work/in"
-    one=$(count '$.m00')
-    for paths in 2 4 8 16 32 64; do
-        words=$(python3 -c "print(' '.join(f'\$.m{k:02}' for k in range($paths)))")
-        echo "| $paths | $(( ($(count $words) - one) / 4000 / (paths - 1) )) |"
+    paths_to() { python3 -c "print(' '.join(f'\$.m{k:02}' for k in range($1)))"; }
+    base=$(count $(paths_to 20))
+    for paths in 31 42 53 64; do
+        echo "| $paths, beside 20 | $(( ($(count $(paths_to "$paths")) - base) / 4000 / (paths - 20) )) |"
     done
 fi
