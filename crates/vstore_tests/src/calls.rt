@@ -1,3 +1,7 @@
+//! Public calls of the libraries on their happy path.
+
+ghost use Rattle.path_query.specs.Rows.{row_of, IsOrderedRow};
+
 use exact_json::{Lines, Next, read_line};
 use exact_num::{NumFault, read_number};
 use json_lines::LineFault;
@@ -6,8 +10,10 @@ use json_tree::{
     Items, Members, MembersFault, Number, Tree, copy, depth, print, print_text, same, text_len,
 };
 use outside::{MemSink, MemSource, Sink, Source, StdSink, StdSource, write_all};
-use path_query::{PathList, Query, at, holds, line, parse_filter, parse_path};
+use path_query::{Path, PathList, Query, at, holds, line, parse_filter, parse_path};
+use std::alloc::Global;
 use std::cmp::Ordering;
+use std::process::Abort;
 use std::test::Fail;
 use vs_bytes::{Bytes, Text};
 
@@ -200,60 +206,83 @@ fn a_string_is_read_from_its_place(rt: HostRuntime) -> Result<(), Fail> {
     Ok(())
 }
 
-// Asserts what a path finds in a document, printed one behind the other.
+// Asserts what a path finds in a row, each match with a semicolon behind it.
+fn check_matches(
+    rt: &impl Abort,
+    alloc: Global,
+    path: &Path,
+    row: Option<&Tree>,
+    wanted: &[u8],
+) -> Result<(), Fail>
+    requires { IsOrderedRow (row_of row) }
+{
+    let mut text = Vec::new(alloc);
+    for part in at(alloc, path, row)?.iter() {
+        print(&mut text, part)?;
+        text.push(b';')?;
+    }
+    assert_eq!(rt; text.as_slice(), wanted);
+    Ok(())
+}
+
 #[test]
 fn the_matches_of_a_path_come_in_order(rt: HostRuntime) -> Result<(), Fail> {
     let alloc = rt.alloc();
-    let Ok(tree) = read_line(alloc, b"{\"a\":[{\"b\":3},{\"b\":1},7,{\"b\":[2]}]}") else {
-        assert!(&rt; false, "the line is a document");
-        return Ok(());
-    };
     let Ok(path) = parse_path(alloc, "$.a[*].b") else {
         assert!(&rt; false, "the text is a path");
         return Ok(());
     };
-    let found = at(alloc, &path, Some(&tree))?;
-    let mut text = Vec::new(alloc);
-    for part in found.iter() {
-        print(&mut text, part)?;
-        text.push(b';')?;
-    }
-    assert_eq!(&rt; text.as_slice(), b"3;1;[2];".as_slice());
     assert_eq!(&rt; path.text(), b"$.a[*].b".as_slice());
     assert_eq!(&rt; path.key(), b"\"$.a[*].b\"".as_slice());
     assert_eq!(&rt; path.len(), 3);
+    match read_line(alloc, b"{\"a\":[{\"b\":3},{\"b\":1},7,{\"b\":[2]}]}") {
+        Ok(tree) => check_matches(&rt, alloc, &path, Some(&tree), b"3;1;[2];"),
+        Err(_) => {
+            assert!(&rt; false, "the line is a document");
+            Ok(())
+        }
+    }
+}
+
+// Asserts what is printed for an absent row.
+fn check_absent(rt: &impl Abort, alloc: Global, text: &str, wanted: &[u8]) -> Result<(), Fail> {
+    let Ok(path) = parse_path(alloc, text) else {
+        assert!(rt; false, "{text} is a path");
+        return Ok(());
+    };
+    check_matches(rt, alloc, &path, None, b"")?;
+    let mut paths = PathList::new(alloc);
+    paths.push(path)?;
+    let query = Query {
+        filter: None,
+        paths,
+    };
+    let mut printed = Vec::new(alloc);
+    line(&mut printed, &query, None)?;
+    assert_eq!(rt; printed.as_slice(), wanted);
+    Ok(())
+}
+
+// Asserts whether a filter holds in an absent row.
+fn check_absent_truth(
+    rt: &impl Abort,
+    alloc: Global,
+    text: &str,
+    wanted: bool,
+) -> Result<(), Fail> {
+    match parse_filter(alloc, text) {
+        Ok(filter) => assert_eq!(rt; holds(&filter, None), wanted),
+        Err(_) => assert!(rt; false, "{text} is a filter"),
+    }
     Ok(())
 }
 
 #[test]
 fn an_absent_row_has_no_match(rt: HostRuntime) -> Result<(), Fail> {
-    let alloc = rt.alloc();
-    let mut paths = PathList::new(alloc);
-    for text in ["$", "$.a", "$[*]"] {
-        let Ok(path) = parse_path(alloc, text) else {
-            assert!(&rt; false, "the text is a path");
-            return Ok(());
-        };
-        assert_eq!(&rt; at(alloc, &path, None)?.len(), 0);
-        paths.push(path)?;
-    }
-    let query = Query {
-        filter: None,
-        paths,
-    };
-    let mut text = Vec::new(alloc);
-    line(&mut text, &query, None)?;
-    assert_eq!(&rt; text.as_slice(), b"{\"$[*]\":[]}\n".as_slice());
-    for (filter, wanted) in [
-        ("$ exists", false),
-        ("$ missing", true),
-        ("not $ = 1", true),
-    ] {
-        let Ok(filter) = parse_filter(alloc, filter) else {
-            assert!(&rt; false, "the text is a filter");
-            return Ok(());
-        };
-        assert_eq!(&rt; holds(&filter, None), wanted);
-    }
-    Ok(())
+    check_absent(&rt, rt.alloc(), "$", b"{}\n")?;
+    check_absent(&rt, rt.alloc(), "$.a", b"{}\n")?;
+    check_absent(&rt, rt.alloc(), "$[*]", b"{\"$[*]\":[]}\n")?;
+    check_absent_truth(&rt, rt.alloc(), "$ exists", false)?;
+    check_absent_truth(&rt, rt.alloc(), "$ missing", true)?;
+    check_absent_truth(&rt, rt.alloc(), "not $ = 1", true)
 }

@@ -1,9 +1,11 @@
 //! Words, paths and filters: what a query answers, and which words are none.
 
-use crate::runs::{check, run};
+use crate::runs::{check, run, run_words, words_of};
 use std::alloc::Global;
 use std::process::Abort;
 use std::test::Fail;
+use variant_store::Word;
+use vs_bytes::Text;
 
 // A row: path, input, output. The status is 0, and the error output is empty.
 #[test]
@@ -216,67 +218,76 @@ fn the_first_fault_of_the_words_is_told(rt: HostRuntime) -> Result<(), Fail> {
     Ok(())
 }
 
+// Words that are no paths, one a line; the first is empty.
+const NO_PATHS: &str = "
+a
+$.
+$..a
+$.a.
+$a
+.a
+$.1
+$.a-b
+$.a b
+$.a 
+ $.a
+$$
+$.\u{e9}
+$[
+$[]
+$[0
+$0]
+$[01]
+$[00]
+$[-1]
+$[+1]
+$[1.0]
+$[1e0]
+$[ 0]
+$[0 ]
+$ [0]
+$[0] 
+$[1000000000]
+$[0000000001]
+$[18446744073709551616]
+$[0x1]
+$[*
+$[**]
+$[ *]
+$[* ]
+$.*
+$*
+$[a]
+$['a']
+$[\"a]
+$[\"a\"
+$[\"a\" ]
+$[ \"a\"]
+$[\"\\ud800\"]
+$[\"\\udc00\\ud800\"]
+$[\"\\x\"]
+$[\"a\"]b
+$[\"a\"].
+$.a[
+$.a]
+$,a
+$.a,$.b
+$(0)";
+
 #[test]
 fn a_word_that_is_no_path_is_refused_before_the_input_is_read(rt: HostRuntime) -> Result<(), Fail> {
-    let words = [
-        "",
-        "a",
-        "$.",
-        "$..a",
-        "$.a.",
-        "$a",
-        ".a",
-        "$.1",
-        "$.a-b",
-        "$.a b",
-        "$.a ",
-        " $.a",
-        "$$",
-        "$.\u{e9}",
-        "$.a\n",
-        "$[",
-        "$[]",
-        "$[0",
-        "$0]",
-        "$[01]",
-        "$[00]",
-        "$[-1]",
-        "$[+1]",
-        "$[1.0]",
-        "$[1e0]",
-        "$[ 0]",
-        "$[0 ]",
-        "$ [0]",
-        "$[0] ",
-        "$[1000000000]",
-        "$[0000000001]",
-        "$[18446744073709551616]",
-        "$[0x1]",
-        "$[*",
-        "$[**]",
-        "$[ *]",
-        "$[* ]",
-        "$.*",
-        "$*",
-        "$[a]",
-        "$['a']",
-        "$[\"a]",
-        "$[\"a\"",
-        "$[\"a\" ]",
-        "$[ \"a\"]",
-        "$[\"\\ud800\"]",
-        "$[\"\\udc00\\ud800\"]",
-        "$[\"\\x\"]",
-        "$[\"\n\"]",
-        "$[\"a\"]b",
-        "$[\"a\"].",
-        "$.a[",
-        "$.a]",
-        "$,a",
-        "$.a,$.b",
-        "$(0)",
-    ];
-    for word in words {
+    for word in NO_PATHS.split('\n') {
+        check(
+            &rt,
+            rt.alloc(),
+            &["scan", word],
+            b"01",
+            2,
+            b"",
+            b"vstore: bad path\n",
+        )?;
+    }
+    for word in ["$.a\n", "$[\"\n\"]"] {
         check(
             &rt,
             rt.alloc(),
@@ -345,35 +356,24 @@ fn a_path_has_at_most_64_steps_and_4096_bytes(rt: HostRuntime) -> Result<(), Fai
     )
 }
 
+// `scan` and so many paths, `$[0]` first.
+fn many_paths(alloc: Global, count: usize) -> Result<Vec<Word>, Fail> {
+    let mut words = words_of(alloc, &["scan"])?;
+    for path in 0..count {
+        words.push(Text::from_string(format!(in alloc; "$[{path}]")?))?;
+    }
+    Ok(words)
+}
+
 #[test]
 fn a_query_has_at_most_64_paths(rt: HostRuntime) -> Result<(), Fail> {
     let alloc = rt.alloc();
-    for count in [64usize, 65] {
-        let mut texts = Vec::new(alloc);
-        let mut out = Vec::new(alloc);
-        for path in 0..count {
-            texts.push(format!(in alloc; "$[{path}]")?)?;
-        }
-        let mut words = Vec::new(alloc);
-        words.push("scan")?;
-        for text in texts.iter() {
-            words.push(text.as_str())?;
-        }
-        if count == 64 {
-            out.extend_from_slice(b"{\"$[0]\":5}\n")?;
-            check(&rt, alloc, words.as_slice(), b"[5]", 0, out.as_slice(), b"")?;
-        } else {
-            check(
-                &rt,
-                alloc,
-                words.as_slice(),
-                b"[5]",
-                2,
-                b"",
-                b"vstore: usage\n",
-            )?;
-        }
-    }
+    let most = run_words(alloc, many_paths(alloc, 64)?.as_slice(), b"[5]", 64)?;
+    assert_eq!(&rt; most.status, 0);
+    assert_eq!(&rt; most.out.bytes(), b"{\"$[0]\":5}\n".as_slice());
+    let over = run_words(alloc, many_paths(alloc, 65)?.as_slice(), b"[5]", 64)?;
+    assert_eq!(&rt; over.status, 2);
+    assert_eq!(&rt; over.err.bytes(), b"vstore: usage\n".as_slice());
     Ok(())
 }
 
@@ -386,125 +386,124 @@ fn check_refused(rt: &impl Abort, alloc: Global, filter: &str, err: &[u8]) -> Re
     Ok(())
 }
 
+// Texts that are no filters, one a line.
+const NO_FILTERS: &str = " 
+ $ exists
+$ exists 
+$
+$ 
+$.aexists
+$.a.exists
+$.a exist
+$ existsx
+$ exists1
+$ exists_
+$ Exists
+$ missing_
+$ exists missing
+exists
+$ =
+$ = 
+= 1
+$ == 1
+$ = = 1
+$ < = 1
+$ > = 1
+$ ! = 1
+$ ! 1
+$ =! 1
+$ <> 1
+$ => 1
+$ =< 1
+$ = tru
+$ = truex
+$ = false1
+$ = null_
+$ = True
+$ = NULL
+$ = nul
+$ = 1x
+$ = 01
+$ = -01
+$ = +1
+$ = .5
+$ = 1.
+$ = 1e
+$ = - 1
+$ = 1e38
+$ = 1e-39
+$ = 1 2
+$ = \"a
+$ = 'a'
+$ = a
+$ = \"\\ud800\"
+$ = \"\\x\"
+$ = \"a\"b\"
+$ = [1]
+$ = {}
+$ = $.a
+1 = $
+$.a $.b
+($ exists
+$ exists)
+( $ exists
+()
+(
+)
+$ exists()
+(($ exists)
+not
+not 
+not not
+no $ exists
+notnot $ exists
+not1
+not()
+NOT $ exists
+! $ exists
+or $ exists
+and $ exists
+$ exists or
+$ exists or 
+$ exists and
+$ exists and or $ exists
+$ exists or or $ exists
+$ exists $ exists
+$ existsor $ exists
+$ existsand $ exists
+$ exists or1
+$ exists OR $ exists
+$ exists || $ exists
+$ exists, $ exists
+$ exists)or($ exists
+$ = nullor $ exists
+$ = trueand $ exists
+$ exists andnot $ exists
+$ exists ornot $ exists
+$.a. exists
+$ .a exists
+$. a exists
+$[ 0] exists
+$[0 ] exists
+$[01] exists
+$[\"\\ud800\"] exists
+$\texists
+$ = 1\t
+$\u{a0}exists
+$ < null or
+$ exists or $ < null and
+$ exists or$
+$ exists and($ exists
+not ($ exists
+$ exists --
+$.a exists;";
+
 #[test]
 fn a_text_that_is_no_filter_is_refused(rt: HostRuntime) -> Result<(), Fail> {
-    let rows = [
-        " ",
-        " $ exists",
-        "$ exists ",
-        "$",
-        "$ ",
-        "$.aexists",
-        "$.a.exists",
-        "$.a exist",
-        "$ existsx",
-        "$ exists1",
-        "$ exists_",
-        "$ Exists",
-        "$ missing_",
-        "$ exists missing",
-        "exists",
-        "$ =",
-        "$ = ",
-        "= 1",
-        "$ == 1",
-        "$ = = 1",
-        "$ < = 1",
-        "$ > = 1",
-        "$ ! = 1",
-        "$ ! 1",
-        "$ =! 1",
-        "$ <> 1",
-        "$ => 1",
-        "$ =< 1",
-        "$ = tru",
-        "$ = truex",
-        "$ = false1",
-        "$ = null_",
-        "$ = True",
-        "$ = NULL",
-        "$ = nul",
-        "$ = 1x",
-        "$ = 01",
-        "$ = -01",
-        "$ = +1",
-        "$ = .5",
-        "$ = 1.",
-        "$ = 1e",
-        "$ = - 1",
-        "$ = 1e38",
-        "$ = 1e-39",
-        "$ = 1 2",
-        "$ = \"a",
-        "$ = 'a'",
-        "$ = a",
-        "$ = \"\\ud800\"",
-        "$ = \"\\x\"",
-        "$ = \"a\"b\"",
-        "$ = [1]",
-        "$ = {}",
-        "$ = $.a",
-        "1 = $",
-        "$.a $.b",
-        "($ exists",
-        "$ exists)",
-        "( $ exists",
-        "()",
-        "(",
-        ")",
-        "$ exists()",
-        "(($ exists)",
-        "not",
-        "not ",
-        "not not",
-        "no $ exists",
-        "notnot $ exists",
-        "not1",
-        "not()",
-        "NOT $ exists",
-        "! $ exists",
-        "or $ exists",
-        "and $ exists",
-        "$ exists or",
-        "$ exists or ",
-        "$ exists and",
-        "$ exists and or $ exists",
-        "$ exists or or $ exists",
-        "$ exists $ exists",
-        "$ existsor $ exists",
-        "$ existsand $ exists",
-        "$ exists or1",
-        "$ exists OR $ exists",
-        "$ exists || $ exists",
-        "$ exists, $ exists",
-        "$ exists)or($ exists",
-        "$ = nullor $ exists",
-        "$ = trueand $ exists",
-        "$ exists andnot $ exists",
-        "$ exists ornot $ exists",
-        "$.a. exists",
-        "$ .a exists",
-        "$. a exists",
-        "$[ 0] exists",
-        "$[0 ] exists",
-        "$[01] exists",
-        "$[\"\\ud800\"] exists",
-        "$\texists",
-        "$\nexists",
-        "$ = 1\t",
-        "$\u{a0}exists",
-        "$ < null or",
-        "$ exists or $ < null and",
-        "$ exists or$",
-        "$ exists and($ exists",
-        "not ($ exists",
-        "$ exists --",
-        "$.a exists;",
-    ];
-    for filter in rows {
+    for filter in NO_FILTERS.split('\n') {
         check_refused(&rt, rt.alloc(), filter, b"vstore: bad filter\n")?;
     }
-    Ok(())
+    check_refused(&rt, rt.alloc(), "$\nexists", b"vstore: bad filter\n")
 }
 
 #[test]
@@ -559,195 +558,252 @@ fn check_truth(
     Ok(())
 }
 
-// A row: filter, document, whether the filter holds.
-#[test]
-fn a_filter_holds_by_its_matches(rt: HostRuntime) -> Result<(), Fail> {
-    let rows = [
-        ("$.a exists", "{\"a\":null}", true),
-        ("$.a exists", "{\"b\":1}", false),
-        ("$.a missing", "{\"a\":null}", false),
-        ("$.a missing", "7", true),
-        ("$.a[*] exists", "{\"a\":[]}", false),
-        ("$.a[*] missing", "{\"a\":[]}", true),
-        ("$.a[*] exists", "{\"a\":[null]}", true),
-        ("$ = null", "null", true),
-        ("$ = null", "0", false),
-        ("$ = null", "false", false),
-        ("$.a = null", "{}", false),
-        ("$ = true", "true", true),
-        ("$ = true", "false", false),
-        ("$ != true", "false", true),
-        ("$ != true", "true", false),
-        ("$ = false", "false", true),
-        ("$ = false", "null", false),
-        ("$ != false", "true", true),
-        ("$ != false", "false", false),
-        ("$ != true", "null", false),
-        ("$ != true", "\"true\"", false),
-        ("$ = 1", "1.0", true),
-        ("$ = 1", "10e-1", true),
-        ("$ = 1", "\"1\"", false),
-        ("$ = 1", "[1]", false),
-        ("$ = 1", "true", false),
-        ("$ != 1", "2", true),
-        ("$ != 1", "\"2\"", false),
-        ("$ != 1", "null", false),
-        ("$.a != 1", "{}", false),
-        ("not $.a = 1", "{}", true),
-        ("not $.a = 1", "{\"a\":1}", false),
-        // numbers by value, not by their text, their digits or their scale
-        ("$ < 10", "9", true),
-        ("$ < 10", "9.5", true),
-        ("$ < 10", "10", false),
-        ("$ > 9.5", "10", true),
-        ("$ > 0.75", "0.8", true),
-        ("$ < -1", "-2", true),
-        ("$ < -1", "-0.5", false),
-        ("$ >= -0", "0", true),
-        ("$ = 9007199254740993", "9007199254740992", false),
-        ("$ = 9007199254740993", "9007199254740993", true),
-        ("$ > 0.1", "0.10000000000000000000000000000000000001", true),
-        ("$ = 1e2", "100", true),
-        ("$ <= 100", "1e2", true),
-        ("$ <= 100", "100.01", false),
-        ("$ >= 100", "1e2", true),
-        ("$ >= 100", "99.99", false),
-        ("$ < 1", "\"0\"", false),
-        // texts by their bytes, not by their length
-        ("$ = \"a\"", "\"\\u0061\"", true),
-        ("$ = \"\\u0061\"", "\"a\"", true),
-        ("$ = \"a\"", "\"A\"", false),
-        ("$ < \"b\"", "\"aa\"", true),
-        ("$ < \"aa\"", "\"b\"", false),
-        ("$ > \"a\"", "\"aa\"", true),
-        ("$ < \"a\"", "\"\"", true),
-        ("$ > \"Z\"", "\"a\"", true),
-        ("$ > \"z\"", "\"\u{e9}\"", true),
-        ("$ < \"\u{10000}\"", "\"\u{ffff}\"", true),
-        ("$ != \"a\"", "\"b\"", true),
-        ("$ != \"a\"", "1", false),
-        ("$ <= \"a\"", "\"a\"", true),
-        ("$ >= \"a\"", "\"a\"", true),
-        // some match serves, and not the first alone
-        ("$[*] = 2", "[1,2]", true),
-        ("$[*] = 3", "[1,2]", false),
-        ("$[*] > 1", "[\"5\",null,2]", true),
-        ("$[*] != 1", "[1,1,2]", true),
-        ("$[*] != 1", "[1,1]", false),
-        ("not $[*] = 1", "[2,1]", false),
-        ("$.t[*].x = null", "{\"t\":[{},{\"x\":null}]}", true),
-        ("$[*][*] = \"x\"", "[[],[\"y\",\"x\"]]", true),
-        // and binds more tightly than or, and not more tightly than both
-        ("$ = 1 or $ = 2 and $ = 3", "1", true),
-        ("$ = 3 and $ = 2 or $ = 1", "1", true),
-        ("($ = 1 or $ = 2) and $ = 3", "1", false),
-        ("$ = 3 and ($ = 2 or $ = 1)", "1", false),
-        ("not $ = 1 or $ = 1", "1", true),
-        ("not $ = 2 and $ = 1", "1", true),
-        ("not ($ = 2 or $ = 1)", "1", false),
-        ("not not $ = 1", "1", true),
-        ("not not not $ = 1", "1", false),
-        ("$ exists and $ exists and $ missing", "1", false),
-        ("$ missing or $ missing or $ exists", "1", true),
-        // where spaces needn't stand
-        ("$exists", "1", true),
-        ("$=1", "1", true),
-        ("$<2and$>0", "1", true),
-        ("$=1or$=2", "1", true),
-        ("$ = 1or $ = 2", "2", true),
-        ("$=\"a\"or$=1", "1", true),
-        ("not($=2)and($=1)", "1", true),
-        ("not$=2", "1", true),
-        ("$[0]exists", "[1]", true),
-        ("$[\"a\"]exists", "{\"a\":1}", true),
-        ("$[*]>=2", "[2]", true),
-        ("$ exists or$ missing", "1", true),
-        ("(not(not($ exists)))", "1", true),
-        // and where they may
-        ("not   (  $.a   =   1   )  or   $   exists", "1", true),
-        ("$<=   1", "1", true),
-        ("$   <=1", "1", true),
-        ("not   not   $   missing", "1", false),
-        ("$.a   missing", "1", true),
-        ("$[\" or \"] missing", "1", true),
-        ("$ = \" and $ = 1\"", "\" and $ = 1\"", true),
-    ];
-    for (filter, document, holds) in rows {
-        check_truth(&rt, rt.alloc(), filter, document, holds)?;
+// Tables of filters: a filter, a document, and whether the filter holds on it, parted by tabs.
+
+// what a path finds, and its kind
+const BY_KIND: &str = "$.a exists\t{\"a\":null}\tyes
+$.a exists\t{\"b\":1}\tno
+$.a missing\t{\"a\":null}\tno
+$.a missing\t7\tyes
+$.a[*] exists\t{\"a\":[]}\tno
+$.a[*] missing\t{\"a\":[]}\tyes
+$.a[*] exists\t{\"a\":[null]}\tyes
+$ = null\tnull\tyes
+$ = null\t0\tno
+$ = null\tfalse\tno
+$.a = null\t{}\tno
+$ = true\ttrue\tyes
+$ = true\tfalse\tno
+$ != true\tfalse\tyes
+$ != true\ttrue\tno
+$ = false\tfalse\tyes
+$ = false\tnull\tno
+$ != false\ttrue\tyes
+$ != false\tfalse\tno
+$ != true\tnull\tno
+$ != true\t\"true\"\tno
+$ = 1\t1.0\tyes
+$ = 1\t10e-1\tyes
+$ = 1\t\"1\"\tno
+$ = 1\t[1]\tno
+$ = 1\ttrue\tno
+$ != 1\t2\tyes
+$ != 1\t\"2\"\tno
+$ != 1\tnull\tno
+$.a != 1\t{}\tno
+not $.a = 1\t{}\tyes
+not $.a = 1\t{\"a\":1}\tno";
+
+// numbers by value, not by their text, their digits or their scale
+const BY_VALUE: &str = "$ < 10\t9\tyes
+$ < 10\t9.5\tyes
+$ < 10\t10\tno
+$ > 9.5\t10\tyes
+$ > 0.75\t0.8\tyes
+$ < -1\t-2\tyes
+$ < -1\t-0.5\tno
+$ >= -0\t0\tyes
+$ = 9007199254740993\t9007199254740992\tno
+$ = 9007199254740993\t9007199254740993\tyes
+$ > 0.1\t0.10000000000000000000000000000000000001\tyes
+$ = 1e2\t100\tyes
+$ <= 100\t1e2\tyes
+$ <= 100\t100.01\tno
+$ >= 100\t1e2\tyes
+$ >= 100\t99.99\tno
+$ < 1\t\"0\"\tno";
+
+// texts by their bytes, not by their length
+const BY_BYTES: &str = "$ = \"a\"\t\"\\u0061\"\tyes
+$ = \"\\u0061\"\t\"a\"\tyes
+$ = \"a\"\t\"A\"\tno
+$ < \"b\"\t\"aa\"\tyes
+$ < \"aa\"\t\"b\"\tno
+$ > \"a\"\t\"aa\"\tyes
+$ < \"a\"\t\"\"\tyes
+$ > \"Z\"\t\"a\"\tyes
+$ > \"z\"\t\"\u{e9}\"\tyes
+$ < \"\u{10000}\"\t\"\u{ffff}\"\tyes
+$ != \"a\"\t\"b\"\tyes
+$ != \"a\"\t1\tno
+$ <= \"a\"\t\"a\"\tyes
+$ >= \"a\"\t\"a\"\tyes";
+
+// some match serves, and not the first alone
+const BY_SOME_MATCH: &str = "$[*] = 2\t[1,2]\tyes
+$[*] = 3\t[1,2]\tno
+$[*] > 1\t[\"5\",null,2]\tyes
+$[*] != 1\t[1,1,2]\tyes
+$[*] != 1\t[1,1]\tno
+not $[*] = 1\t[2,1]\tno
+$.t[*].x = null\t{\"t\":[{},{\"x\":null}]}\tyes
+$[*][*] = \"x\"\t[[],[\"y\",\"x\"]]\tyes";
+
+// and binds more tightly than or, and not more tightly than both
+const BY_BINDING: &str = "$ = 1 or $ = 2 and $ = 3\t1\tyes
+$ = 3 and $ = 2 or $ = 1\t1\tyes
+($ = 1 or $ = 2) and $ = 3\t1\tno
+$ = 3 and ($ = 2 or $ = 1)\t1\tno
+not $ = 1 or $ = 1\t1\tyes
+not $ = 2 and $ = 1\t1\tyes
+not ($ = 2 or $ = 1)\t1\tno
+not not $ = 1\t1\tyes
+not not not $ = 1\t1\tno
+$ exists and $ exists and $ missing\t1\tno
+$ missing or $ missing or $ exists\t1\tyes";
+
+// where spaces needn't stand
+const WITHOUT_SPACES: &str = "$exists\t1\tyes
+$=1\t1\tyes
+$<2and$>0\t1\tyes
+$=1or$=2\t1\tyes
+$ = 1or $ = 2\t2\tyes
+$=\"a\"or$=1\t1\tyes
+not($=2)and($=1)\t1\tyes
+not$=2\t1\tyes
+$[0]exists\t[1]\tyes
+$[\"a\"]exists\t{\"a\":1}\tyes
+$[*]>=2\t[2]\tyes
+$ exists or$ missing\t1\tyes
+(not(not($ exists)))\t1\tyes";
+
+// and where they may
+const WITH_SPACES: &str = "not   (  $.a   =   1   )  or   $   exists\t1\tyes
+$<=   1\t1\tyes
+$   <=1\t1\tyes
+not   not   $   missing\t1\tno
+$.a   missing\t1\tyes
+$[\" or \"] missing\t1\tyes
+$ = \" and $ = 1\"\t\" and $ = 1\"\tyes";
+
+// Asserts what a table of filters says.
+fn check_truths(rt: &impl Abort, alloc: Global, table: &str) -> Result<(), Fail> {
+    for row in table.split('\n') {
+        let Some((filter, others)) = row.split_once('\t') else {
+            assert!(rt; false, "a row has three parts: {row}");
+            return Ok(());
+        };
+        let Some((document, holds)) = others.split_once('\t') else {
+            assert!(rt; false, "a row has three parts: {row}");
+            return Ok(());
+        };
+        assert!(rt; holds == "yes" || holds == "no", "{row}");
+        check_truth(rt, alloc, filter, document, holds == "yes")?;
     }
     Ok(())
 }
 
 #[test]
-fn a_filter_has_at_most_256_terms_64_levels_and_65536_bytes(rt: HostRuntime) -> Result<(), Fail> {
-    let alloc = rt.alloc();
-    let refused = b"vstore: bad filter\n";
-    for word in [" or ", " and "] {
-        let most = repeated(alloc, "$ = 1", word, 256)?;
-        check_truth(&rt, alloc, most.as_str(), "1", true)?;
-        let over = repeated(alloc, "$ = 1", word, 257)?;
-        check_refused(&rt, alloc, over.as_str(), refused)?;
+fn a_filter_holds_by_its_matches(rt: HostRuntime) -> Result<(), Fail> {
+    for table in [
+        BY_KIND,
+        BY_VALUE,
+        BY_BYTES,
+        BY_SOME_MATCH,
+        BY_BINDING,
+        WITHOUT_SPACES,
+        WITH_SPACES,
+    ] {
+        check_truths(&rt, rt.alloc(), table)?;
     }
-    // 128 terms in brackets, twice, and one more
+    Ok(())
+}
+
+// Asserts that a text is a filter, which holds on 1, or that it is none.
+fn check_filter(rt: &impl Abort, alloc: Global, text: &str, is_filter: bool) -> Result<(), Fail> {
+    if is_filter {
+        check_truth(rt, alloc, text, "1", true)
+    } else {
+        check_refused(rt, alloc, text, b"vstore: bad filter\n")
+    }
+}
+
+// So many terms, with a word between two of them.
+fn check_terms(
+    rt: &impl Abort,
+    alloc: Global,
+    word: &str,
+    count: usize,
+    is_filter: bool,
+) -> Result<(), Fail> {
+    let text = repeated(alloc, "$ = 1", word, count)?;
+    check_filter(rt, alloc, text.as_str(), is_filter)
+}
+
+#[test]
+fn a_filter_has_at_most_256_terms(rt: HostRuntime) -> Result<(), Fail> {
+    for word in [" or ", " and "] {
+        check_terms(&rt, rt.alloc(), word, 256, true)?;
+        check_terms(&rt, rt.alloc(), word, 257, false)?;
+    }
+    Ok(())
+}
+
+// 128 terms in brackets, twice, and more.
+fn check_halves(rt: &impl Abort, alloc: Global, more: &str, is_filter: bool) -> Result<(), Fail> {
     let half = repeated(alloc, "$ = 1", " and ", 128)?;
-    let most = format!(in alloc; "({half}) or ({half})")?;
-    check_truth(&rt, alloc, most.as_str(), "1", true)?;
-    let over = format!(in alloc; "({half}) or ({half} or $ = 1)")?;
-    check_refused(&rt, alloc, over.as_str(), refused)?;
-    // nots and brackets, alone and mixed
-    let nots = repeated(alloc, "not ", "", 64)?;
-    check_truth(
-        &rt,
+    let text = format!(in alloc; "({half}) or ({half}{more})")?;
+    check_filter(rt, alloc, text.as_str(), is_filter)
+}
+
+#[test]
+fn terms_in_brackets_are_counted(rt: HostRuntime) -> Result<(), Fail> {
+    check_halves(&rt, rt.alloc(), "", true)?;
+    check_halves(&rt, rt.alloc(), " or $ = 1", false)
+}
+
+// A term with so many openings before it and as many closings behind it.
+fn nested(alloc: Global, open: &str, close: &str, count: usize) -> Result<String, Fail> {
+    let mut text = repeated(alloc, open, "", count)?;
+    text.push_str("$ = 1")?;
+    text.push_str(repeated(alloc, close, "", count)?.as_str())?;
+    Ok(text)
+}
+
+fn check_nested(
+    rt: &impl Abort,
+    alloc: Global,
+    open: &str,
+    close: &str,
+    count: usize,
+    is_filter: bool,
+) -> Result<(), Fail> {
+    check_filter(
+        rt,
         alloc,
-        format!(in alloc; "{nots}$ = 1")?.as_str(),
-        "1",
-        true,
-    )?;
-    check_refused(
-        &rt,
-        alloc,
-        format!(in alloc; "not {nots}$ = 1")?.as_str(),
-        refused,
-    )?;
-    let open = repeated(alloc, "(", "", 64)?;
-    let close = repeated(alloc, ")", "", 64)?;
-    check_truth(
-        &rt,
-        alloc,
-        format!(in alloc; "{open}$ = 1{close}")?.as_str(),
-        "1",
-        true,
-    )?;
-    check_refused(
-        &rt,
-        alloc,
-        format!(in alloc; "({open}$ = 1{close})")?.as_str(),
-        refused,
-    )?;
-    check_refused(
-        &rt,
-        alloc,
-        format!(in alloc; "not {open}$ = 1{close}")?.as_str(),
-        refused,
-    )?;
-    // two deep parts side by side are no deeper
-    let deep = format!(in alloc; "{open}$ = 1{close} and {open}$ = 1{close}")?;
-    check_truth(&rt, alloc, deep.as_str(), "1", true)?;
-    // 65,536 bytes, of which five are no spaces, and one more
-    let spaces = repeated(alloc, " ", "", 65_531)?;
-    check_truth(
-        &rt,
-        alloc,
-        format!(in alloc; "$.a{spaces}=1")?.as_str(),
-        "{\"a\":1}",
-        true,
-    )?;
-    check_refused(
-        &rt,
-        alloc,
-        format!(in alloc; "$.a {spaces}=1")?.as_str(),
-        refused,
+        nested(alloc, open, close, count)?.as_str(),
+        is_filter,
     )
+}
+
+#[test]
+fn a_filter_nests_64_deep_and_no_deeper(rt: HostRuntime) -> Result<(), Fail> {
+    check_nested(&rt, rt.alloc(), "not ", "", 64, true)?;
+    check_nested(&rt, rt.alloc(), "not ", "", 65, false)?;
+    check_nested(&rt, rt.alloc(), "(", ")", 64, true)?;
+    check_nested(&rt, rt.alloc(), "(", ")", 65, false)?;
+    check_nested(&rt, rt.alloc(), "not (", ")", 32, true)?;
+    check_nested(&rt, rt.alloc(), "not (", ")", 33, false)
+}
+
+#[test]
+fn deep_parts_side_by_side_are_no_deeper(rt: HostRuntime) -> Result<(), Fail> {
+    let part = nested(rt.alloc(), "(", ")", 64)?;
+    let text = format!(in rt.alloc(); "{part} and {part}")?;
+    check_filter(&rt, rt.alloc(), text.as_str(), true)
+}
+
+// So many spaces, and three other bytes.
+fn check_spaces(rt: &impl Abort, alloc: Global, count: usize, is_filter: bool) -> Result<(), Fail> {
+    let spaces = repeated(alloc, " ", "", count)?;
+    let text = format!(in alloc; "${spaces}=1")?;
+    check_filter(rt, alloc, text.as_str(), is_filter)
+}
+
+#[test]
+fn a_filter_has_at_most_65536_bytes(rt: HostRuntime) -> Result<(), Fail> {
+    check_spaces(&rt, rt.alloc(), 65_533, true)?;
+    check_spaces(&rt, rt.alloc(), 65_534, false)
 }
 
 // The lines of documents on which the filter doesn't hold are left out.

@@ -27,15 +27,27 @@ pub fn words_of(alloc: Global, texts: &[&str]) -> Result<Vec<Word>, Fail> {
 }
 
 /// Calls the program, its input in pieces of at most so many bytes.
+pub fn run_words(
+    alloc: Global,
+    words: &[Word],
+    input: &[u8],
+    piece: usize,
+) -> Result<Answered, Fail>
+    requires { 0 < piece }
+{
+    let mut source = MemSource::new(Vec::from_slice(alloc, input)?, piece, Vec::new(alloc));
+    let mut out = MemSink::new(alloc, Vec::new(alloc));
+    let mut err = MemSink::new(alloc, Vec::new(alloc));
+    let status = vstore(alloc, words, &mut source, &mut out, &mut err);
+    Ok(Answered { status, out, err })
+}
+
+/// The same with the texts of the words.
 pub fn run(alloc: Global, texts: &[&str], input: &[u8], piece: usize) -> Result<Answered, Fail>
     requires { 0 < piece }
 {
     let words = words_of(alloc, texts)?;
-    let mut source = MemSource::new(Vec::from_slice(alloc, input)?, piece, Vec::new(alloc));
-    let mut out = MemSink::new(alloc, Vec::new(alloc));
-    let mut err = MemSink::new(alloc, Vec::new(alloc));
-    let status = vstore(alloc, words.as_slice(), &mut source, &mut out, &mut err);
-    Ok(Answered { status, out, err })
+    run_words(alloc, words.as_slice(), input, piece)
 }
 
 /// Asserts what a call prints, however its input comes.
