@@ -118,6 +118,7 @@ impl Lines {
         ensures less { LeavesLess self.old self.new result }
         ensures decided { self.old.kept ≡ nothing → IsTrue (is_decided (lines_of self.old.room self.old.held)) → source.new ≡ source.old }
         ensures cause { HasCauseAt (S.faults source.old) (S.faults source.new) ((self.old.kept ≡ nothing) × IsErrOf result LineFault.ReadFault) }
+        ensures calm { (IsErrOf result LineFault.ReadFault → ⊥) → S.faults source.new ≡ S.faults source.old }
         ensures steady { IfOk result (λ next. S.faults source.new ≡ S.faults source.old) }
     {
         if let Some(answer) = self.repeated() {
@@ -151,6 +152,7 @@ impl Lines {
         ensures less { LeavesLess self.old self.new result }
         ensures decided { IsTrue (is_decided (lines_of self.old.room self.old.held)) → source.new ≡ source.old }
         ensures cause { HasCauseAt (S.faults source.old) (S.faults source.new) (IsErrOf result LineFault.ReadFault) }
+        ensures calm { (IsErrOf result LineFault.ReadFault → ⊥) → S.faults source.new ≡ S.faults source.old }
         ensures steady { IfOk result (λ found. S.faults source.new ≡ S.faults source.old) }
     {
         loop {
@@ -256,6 +258,7 @@ impl Lines {
         ensures keeps { OnErr result (Keeps (S.left source.old) (S.left source.new)) }
         ensures limit { IsErrOf result LineFault.InputTooLong → ⊥ }
         ensures cause { HasCauseAt (S.faults source.old) (S.faults source.new) (IsErrOf result LineFault.ReadFault) }
+        ensures calm { (IsErrOf result LineFault.ReadFault → ⊥) → S.faults source.new ≡ S.faults source.old }
         ensures steady { IfOk result (λ found. S.faults source.new ≡ S.faults source.old) }
     {
         let most = (self.room - self.buffer.len() as u64).saturating_add(1);

@@ -156,6 +156,7 @@ impl Buffer {
         ensures held { OnErr result (self.new.held ≡ self.old.held) }
         ensures keeps { OnErr result (Keeps (S.left source.old) (S.left source.new)) }
         ensures cause { HasCauseAt (S.faults source.old) (S.faults source.new) (IsErrOf result SourceError.Failed) }
+        ensures calm { (IsErrOf result SourceError.Failed → ⊥) → S.faults source.new ≡ S.faults source.old }
         ensures steady { IfOk result (λ count. S.faults source.new ≡ S.faults source.old) }
     {
         let size = most.min(self.free());
@@ -183,6 +184,7 @@ fn read_at<S: Source>(
     ensures before { take from bytes.new ≡ take from bytes.old }
     ensures keeps { OnErr result (Keeps (S.left source.old) (S.left source.new)) }
     ensures cause { HasCauseAt (S.faults source.old) (S.faults source.new) (IsErrOf result SourceError.Failed) }
+    ensures calm { (IsErrOf result SourceError.Failed → ⊥) → S.faults source.new ≡ S.faults source.old }
     ensures steady { IfOk result (λ count. S.faults source.new ≡ S.faults source.old) }
 {
     match source.read(&mut bytes[from..from + size]) {

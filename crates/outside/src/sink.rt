@@ -2,7 +2,7 @@
 
 ghost use Rattle.std.specs.Prelude.{◌≡◌, ◌<◌, ◌≤◌, List, ℕ, Option, length, IfOk, OnOk, OnErr, IsErrOf};
 ghost use Rattle.std.specs.Io.KnownBytes.{Appends, WriteAppends};
-ghost use Rattle.outside.specs.Devices.{HasCauseAt, AppendsPrefix};
+ghost use Rattle.outside.specs.Devices.{HasCauseAt, AppendsPrefix, AppendsPart};
 
 use std::error::Error;
 use thiserror::Error;
@@ -35,7 +35,8 @@ pub trait Sink {
         ensures count { IfOk result (λ count. count ≤ length bytes.now) }
         ensures bytes { WriteAppends (written self.old) (written self.new) result bytes.now }
         ensures cause { HasCauseAt (faults self.old) (faults self.new) (IsErrOf result SinkError.Failed) }
-        ensures steady { IfOk result (λ count. faults self.new ≡ faults self.old) };
+        ensures steady { IfOk result (λ count. faults self.new ≡ faults self.old) }
+        ensures calm { IsErrOf result SinkError.NoMemory → faults self.new ≡ faults self.old };
 }
 
 /// Writes all the bytes of a piece.
@@ -43,9 +44,11 @@ pub trait Sink {
 /// After a refusal a prefix of them was written.
 pub fn write_all<K: Sink>(sink: &mut K, bytes: &[u8]) -> Result<(), SinkError>
     ensures ok { OnOk result (Appends (K.written sink.old) (K.written sink.new) bytes.now) }
+    ensures part { OnErr result (AppendsPart (K.written sink.old) (K.written sink.new) bytes.now) }
     ensures err { OnErr result (AppendsPrefix (K.written sink.old) (K.written sink.new) bytes.now) }
     ensures cause { HasCauseAt (K.faults sink.old) (K.faults sink.new) (IsErrOf result SinkError.Failed) }
     ensures steady { OnOk result (K.faults sink.new ≡ K.faults sink.old) }
+    ensures calm { IsErrOf result SinkError.NoMemory → K.faults sink.new ≡ K.faults sink.old }
 {
     let mut done = 0;
     while done < bytes.len() {

@@ -1,7 +1,7 @@
 -- The status of a refusal, and the line that the error output gains.
 use Rattle.std.specs.Prelude.{◌≡◌, ◌⊎◌, ℕ, List, ◌++◌, Option, codes, decimal}
 use Rattle.std.specs.Io.KnownBytes.{Appends}
-use Rattle.outside.specs.Devices.{Rose, AppendsPrefix}
+use Rattle.outside.specs.Devices.{Rose, AppendsPrefix, AppendsPart}
 use Rattle.exact_json.specs.Faults.{name_of}
 use Rattle.variant_store.specs.declared.refusal.BadWords.TheVariants.{Usage, BadFilter, BadOrder, BadPath, RepeatedPath}
 use Rattle.variant_store.specs.declared.refusal.Refusal.{Refusal}
@@ -34,4 +34,4 @@ Reports refusal old new before now = Appends old new (message_of refusal) ⊎ (R
 
 -- the status is the refusal's and its line was written; or there was no memory to write it
 abbrev pub IsReported : Refusal → ℕ → Option (List ℕ) → Option (List ℕ) → ℕ → ℕ → Type 0
-IsReported refusal status old new before now = ((status ≡ status_of refusal) × Reports refusal old new before now) ⊎ ((status ≡ 7) × AppendsPrefix old new (message_of refusal))
+IsReported refusal status old new before now = ((status ≡ status_of refusal) × Reports refusal old new before now) ⊎ ((status ≡ 7) × (now ≡ before) × AppendsPart old new (message_of refusal))

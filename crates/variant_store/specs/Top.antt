@@ -35,7 +35,9 @@ pub record IsAnswer (words : List (List ℕ)) (input left old new : Option (List
   pub done : Result (Unit {0}) Refusal
   pub runs : Runs words input left old new Untouched done
   pub read_cause : HasCauseAt reads reads_now (IsErrOf done refusal.ReadFault)
+  pub read_calm : (IsErrOf done refusal.ReadFault → ⊥) → (IsErrOf done refusal.WriteFault → ⊥) → (IsErrOf done refusal.NoMemory → ⊥) → reads_now ≡ reads
   pub write_cause : HasCauseAt writes writes_now (IsErrOf done refusal.WriteFault)
+  pub write_calm : (IsErrOf done refusal.WriteFault → ⊥) → writes_now ≡ writes
   pub ends : Ends done status err_old err_new faults faults_now
 
 -- admitted input and no fault of a device give 0, or no memory

@@ -37,6 +37,7 @@ pub enum Turn {
 fn drain<O: Sink>(pending: &mut Vec<u8>, out: &mut O) -> Result<(), Refusal>
     ensures drains { Drains (O.written out.old) (O.written out.new) pending.old.items pending.new.items result }
     ensures cause { HasCauseAt (O.faults out.old) (O.faults out.new) (IsErrOf result Refusal.WriteFault) }
+    ensures calm { (IsErrOf result Refusal.WriteFault → ⊥) → O.faults out.new ≡ O.faults out.old }
     ensures steady { OnOk result (O.faults out.new ≡ O.faults out.old) }
 {
     match write_all(out, pending.as_slice()) {
@@ -53,6 +54,7 @@ fn drain<O: Sink>(pending: &mut Vec<u8>, out: &mut O) -> Result<(), Refusal>
 fn drain_piece<O: Sink>(pending: &mut Vec<u8>, out: &mut O) -> Result<(), Refusal>
     ensures drains { DrainsSome (O.written out.old) (O.written out.new) pending.old.items pending.new.items result }
     ensures cause { HasCauseAt (O.faults out.old) (O.faults out.new) (IsErrOf result Refusal.WriteFault) }
+    ensures calm { (IsErrOf result Refusal.WriteFault → ⊥) → O.faults out.new ≡ O.faults out.old }
     ensures steady { OnOk result (O.faults out.new ≡ O.faults out.old) }
 {
     if pending.len() < PIECE {
@@ -94,6 +96,7 @@ fn take_turn<I: Source>(
     ensures goes_on { GoesOn lines.old lines.new result }
     ensures answers { IsOfTurn result }
     ensures cause { HasCauseAt (I.faults input.old) (I.faults input.new) (IsErrOf result Refusal.ReadFault) }
+    ensures calm { (IsErrOf result Refusal.ReadFault → ⊥) → I.faults input.new ≡ I.faults input.old }
     ensures steady { IfOk result (λ turn. I.faults input.new ≡ I.faults input.old) }
 {
     match lines.next(input) {
@@ -131,7 +134,9 @@ fn walk<I: Source, O: Sink>(
     ensures extends { StillExtends (O.written out.old) (O.written out.new) result }
     ensures answers { IsOfScan result }
     ensures read_cause { HasCauseAt (I.faults input.old) (I.faults input.new) (IsErrOf result Refusal.ReadFault) }
+    ensures read_calm { (IsErrOf result Refusal.ReadFault → ⊥) → I.faults input.new ≡ I.faults input.old }
     ensures write_cause { HasCauseAt (O.faults out.old) (O.faults out.new) (IsErrOf result Refusal.WriteFault) }
+    ensures calm { (IsErrOf result Refusal.WriteFault → ⊥) → O.faults out.new ≡ O.faults out.old }
     ensures steady { OnOk result ((I.faults input.new ≡ I.faults input.old) × (O.faults out.new ≡ O.faults out.old)) }
 {
     'turns: loop {
@@ -171,7 +176,9 @@ pub fn scan<I: Source, O: Sink>(
     ensures writes { Scans (asked query.now) (I.left input.old) (I.left input.new) (O.written out.old) (O.written out.new) result }
     ensures answers { IsOfScan result }
     ensures read_cause { HasCauseAt (I.faults input.old) (I.faults input.new) (IsErrOf result Refusal.ReadFault) }
+    ensures read_calm { (IsErrOf result Refusal.ReadFault → ⊥) → (IsErrOf result Refusal.WriteFault → ⊥) → (IsErrOf result Refusal.NoMemory → ⊥) → I.faults input.new ≡ I.faults input.old }
     ensures write_cause { HasCauseAt (O.faults out.old) (O.faults out.new) (IsErrOf result Refusal.WriteFault) }
+    ensures calm { (IsErrOf result Refusal.WriteFault → ⊥) → O.faults out.new ≡ O.faults out.old }
     ensures steady { OnOk result ((I.faults input.new ≡ I.faults input.old) × (O.faults out.new ≡ O.faults out.old)) }
 {
     let mut lines = match Lines::new(alloc, INPUT_LIMIT) {

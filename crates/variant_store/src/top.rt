@@ -22,7 +22,9 @@ fn run<I: Source, O: Sink>(
 ) -> Result<(), Refusal>
     ensures runs { Runs words.now (I.left input.old) (I.left input.new) (O.written out.old) (O.written out.new) ((input.new ≡ input.old) × (out.new ≡ out.old)) result }
     ensures read_cause { HasCauseAt (I.faults input.old) (I.faults input.new) (IsErrOf result Refusal.ReadFault) }
+    ensures read_calm { (IsErrOf result Refusal.ReadFault → ⊥) → (IsErrOf result Refusal.WriteFault → ⊥) → (IsErrOf result Refusal.NoMemory → ⊥) → I.faults input.new ≡ I.faults input.old }
     ensures write_cause { HasCauseAt (O.faults out.old) (O.faults out.new) (IsErrOf result Refusal.WriteFault) }
+    ensures calm { (IsErrOf result Refusal.WriteFault → ⊥) → O.faults out.new ≡ O.faults out.old }
     ensures steady { OnOk result ((I.faults input.new ≡ I.faults input.old) × (O.faults out.new ≡ O.faults out.old)) }
 {
     match asked_query(alloc, words) {
