@@ -54,7 +54,7 @@ fn asked_paths(alloc: Global, texts: &[&str]) -> Result<PathList, Refusal>
         match asked_path(alloc, text) {
             Ok(path) => match paths.push(path) {
                 Ok(()) => {}
-                Err(NoMemory) => return Err(Refusal::NoMemory),
+                Err(_) => return Err(Refusal::NoMemory),
             },
             Err(refusal) => return Err(refusal),
         }
