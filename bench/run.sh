@@ -106,22 +106,19 @@ if command -v valgrind > /dev/null; then
     echo "| filter | bytes | instructions per byte |"
     echo "|---|---|---|"
     : > "$work/in"
-    for count in 64 128 256; do
-        filter=$(python3 -c "print(' or '.join(['\$.user.name = \"u%03d\"' % k for k in range($count)]))")
-        echo "| $count terms | ${#filter} | $(( ($(count --where "$filter" '$') - start) / ${#filter} )) |"
-    done
-    for count in 16 32 64; do
-        filter=$(python3 -c "print('(' * $count + '\$ = 1' + ')' * $count)")
-        echo "| $count brackets | ${#filter} | $(( ($(count --where "$filter" '$') - start) / ${#filter} )) |"
-    done
-    for count in 16000 32000 65000; do
-        filter=$(python3 -c "print('(((\$' + ' ' * $count + '= 1)))')")
-        echo "| $count spaces | ${#filter} | $(( ($(count --where "$filter" '$') - start) / ${#filter} )) |"
-    done
-    for count in 16000 32000 65000; do
-        filter=$(python3 -c "print('\$ = \"' + 'x' * $count + '\"')")
-        echo "| a text of $count letters | ${#filter} | $(( ($(count --where "$filter" '$') - start) / ${#filter} )) |"
-    done
+    # one row: what there are so many of, and an expression of Python that makes the filter of n
+    filters() {
+        local of=$1 text=$2 n filter
+        shift 2
+        for n in "$@"; do
+            filter=$(python3 -c "n = $n; print($text)")
+            echo "| $n $of | ${#filter} | $(( ($(count --where "$filter" '$') - start) / ${#filter} )) |"
+        done
+    }
+    filters terms '" or ".join("$.user.name = \"u%03d\"" % k for k in range(n))' 64 128 256
+    filters brackets '"(" * n + "$ = 1" + ")" * n' 16 32 64
+    filters spaces '"((($" + " " * n + "= 1)))"' 16000 32000 65000
+    filters 'letters of a text' '"$ = \"" + "x" * n + "\""' 16000 32000 65000
 
     # one row of 64 members, asked for by more and more paths
     echo
