@@ -1,0 +1,5 @@
+pub mod Bytes
+pub mod Lists
+pub mod Outcome
+pub mod Parse
+pub mod Words
