@@ -11,5 +11,5 @@ pub record Asked : Type 0 where
   pub filter : Option Formula
   pub paths : List (List Step)
 
-abbrev pub asked : Query → Asked
-asked query = record { filter = option_map formula_of query.filter; paths = map steps_of query.paths }
+abbrev pub query_of : Query → Asked
+query_of query = record { filter = option_map formula_of query.filter; paths = map steps_of query.paths }

@@ -1,31 +1,20 @@
 -- The canonical text of a path.
-use Rattle.std.specs.Prelude.{◌==◌, ℕ, nat_le, List, [], ◌∷◌, ◌++◌, Bool, true, false, ◌&&◌, ◌||◌, cond, decimal}
-use Rattle.std.specs.List.{flat_map, list_all, list_any}
+use Rattle.std.specs.Prelude.{ℕ, List, [], ◌∷◌, ◌++◌, Bool, true, false, if◌then◌else◌, decimal}
+use Rattle.std.specs.List.{flat_map, list_any}
+use Rattle.byte_parsing.specs.Bytes.{dollar, star, dot, open_bracket, close_bracket}
+use Rattle.byte_parsing.specs.Words.{is_name}
 use Rattle.json_tree.specs.Text.{quoted}
 use Rattle.query_tree.specs.declared.step.Step.{Step}
 use Rattle.query_tree.specs.declared.step.Step.TheVariants.{Field, Index, Star}
 
--- a letter or `_`
-abbrev pub is_name_start : ℕ → Bool
-is_name_start x = (nat_le 65 x && nat_le x 90) || ((nat_le 97 x && nat_le x 122) || (x == 95))
-
--- a letter, a digit or `_`
-abbrev pub is_name_byte : ℕ → Bool
-is_name_byte x = is_name_start x || (nat_le 48 x && nat_le x 57)
-
--- a name stands behind a dot as it is
-abbrev pub is_name : List ℕ → Bool
-is_name [] = false
-is_name (x ∷ xs) = is_name_start x && list_all is_name_byte xs
-
 -- `.name`, or else the name as a string in brackets; an index; a star
 abbrev pub step_text : Step → List ℕ
-step_text (Field name) = cond (is_name name) (46 ∷ name) (91 ∷ (quoted name ++ 93 ∷ []))
-step_text (Index n) = 91 ∷ (decimal n ++ 93 ∷ [])
-step_text Star = 91 ∷ (42 ∷ (93 ∷ []))
+step_text (Field name) = if is_name name then dot ∷ name else open_bracket ∷ (quoted name ++ close_bracket ∷ [])
+step_text (Index n) = open_bracket ∷ (decimal n ++ close_bracket ∷ [])
+step_text Star = open_bracket ∷ (star ∷ (close_bracket ∷ []))
 
 abbrev pub path_text : List Step → List ℕ
-path_text steps = 36 ∷ flat_map step_text steps
+path_text steps = dollar ∷ flat_map step_text steps
 
 abbrev pub is_star : Step → Bool
 is_star (Field name) = false

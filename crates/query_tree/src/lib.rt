@@ -4,19 +4,16 @@
 //! |---|---|
 //! | `step` | `Step`: a field, an index, or a star |
 //! | `path` | `Path`: steps and their canonical text |
-//! | `names` | which names may stand in a path as they are |
 //! | `filter` | `Filter`, `Test`, `Relation` |
 //! | `query` | `Query`: a filter and the paths to print |
 #![tactic(auto)]
 
 mod filter;
-mod names;
 mod path;
 mod query;
 mod step;
 
 pub use filter::{Filter, Relation, Test};
-pub use names::{is_name, is_name_byte, is_name_start};
 pub use path::{Path, Steps};
 pub use query::{PathList, Query};
 pub use step::Step;

@@ -1,11 +1,11 @@
 //! Paths, and their canonical text.
 
-ghost use Rattle.std.specs.Prelude.{◌≡◌, ◌<◌, ◌++◌, length, IfOk, OnOk, OnErr, slice_get, Some, decimal};
+ghost use Rattle.std.specs.Prelude.{◌≡◌, ◌↔◌, ◌<◌, [], ◌++◌, length, IsTrue, IfOk, OnOk, OnErr, slice_get, Some, decimal};
 ghost use Rattle.json_tree.specs.Text.{quoted};
 ghost use Rattle.query_tree.specs.PathText.{step_text, path_text, is_star, has_star};
 
-use crate::names::is_name;
 use crate::step::Step;
+use byte_parsing::is_name;
 use itoa::Buffer;
 use json_tree::{print_quoted, print_text};
 use smallvec::SmallVec;
@@ -98,6 +98,13 @@ impl Path {
         ensures { result ≡ length (steps_of self.now) }
     {
         self.steps.len()
+    }
+
+    /// Whether it has no step, and so stands for the row itself.
+    pub fn is_empty(&self) -> bool
+        ensures { IsTrue result ↔ (steps_of self.now ≡ []) }
+    {
+        self.steps.is_empty()
     }
 
     /// The step at `k`, counted from 0.

@@ -9,9 +9,9 @@ use vs_bytes::Text;
 pub enum Step {
     /// `.name` or `["name"]`: the member of that name, where the value is an object that has it.
     Field(Text),
-    /// `[7]`: the item of an array at that place, counted from 0.
+    /// `[7]`: the element of an array at that place, counted from 0.
     Index(u32),
-    /// `[*]`: all items of an array, in order.
+    /// `[*]`: all elements of an array, in order.
     #[default]
     Star,
 }
