@@ -5,6 +5,6 @@ use Rattle.byte_parsing.specs.declared.refused.Refused.{Refused}
 use Rattle.byte_parsing.specs.declared.refused.Refused.TheVariants.{Fault, NoMemory}
 
 -- where no part is read, nothing is
-pub fails : {A B C D F : Type 0} (view : A → B) (other : C → D) (refused : Refused F) (part : Option B) (all : Option D) → Reads view (Err refused) part → (part ≡ None → all ≡ None) → Reads other (Err refused) all
-fails view other (Fault fault) part all h k = k h
-fails view other NoMemory part all h k = tt
+pub fails : {B D F : Type 0} (refused : Refused F) (part : Option B) (all : Option D) → Reads {A = B} {F = F} (λ x. x) (Err refused) part → (part ≡ None → all ≡ None) → Reads {A = D} {F = F} (λ x. x) (Err refused) all
+fails (Fault fault) part all h k = k h
+fails NoMemory part all h k = tt
