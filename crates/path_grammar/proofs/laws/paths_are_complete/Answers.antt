@@ -1,5 +1,0 @@
-use Rattle.path_grammar.proofs.Complete.{path_complete}
-use Rattle.path_grammar.proofs.laws.paths_are_complete.Goals as goal
-
-pub returns : goal.returns
-returns c = path_complete

@@ -1,5 +1,0 @@
-use Rattle.path_grammar.proofs.Texts as texts
-use Rattle.path_grammar.proofs.laws.paths_are_one.Goals as goal
-
-pub returns : goal.returns
-returns c = texts.paths_are_one

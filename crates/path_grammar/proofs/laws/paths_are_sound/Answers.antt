@@ -1,5 +1,0 @@
-use Rattle.path_grammar.proofs.Texts.{path_sound_at}
-use Rattle.path_grammar.proofs.laws.paths_are_sound.Goals as goal
-
-pub returns : goal.returns
-returns c = path_sound_at

@@ -1,4 +1,0 @@
-use Rattle.path_grammar.proofs.steps.read_name.Goals as goal
-
-pub returns-in-Err : goal.returns-in-Err
-returns-in-Err c = absurd (c.in-Err.ensures.cases.0 c.cut_name.ensures.utf8)

@@ -1,5 +1,0 @@
-pub mod Canonical
-pub mod Grammar
-pub mod Reading
-pub mod Shown
-pub mod Told

@@ -1,0 +1,10 @@
+pub mod CanonicalLengths
+pub mod CanonicalTexts
+pub mod Complete
+pub mod Decimals
+pub mod Indexes
+pub mod Lengths
+pub mod Sound
+pub mod Strings
+pub mod Texts
+pub mod Turns

@@ -1,0 +1,5 @@
+pub mod Canonical
+pub mod Grammar
+pub mod Limits
+pub mod Parses
+pub mod Reading
