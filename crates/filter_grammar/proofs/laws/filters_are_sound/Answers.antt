@@ -1,5 +1,0 @@
-use Rattle.filter_grammar.proofs.Texts.{filter_sound}
-use Rattle.filter_grammar.proofs.laws.filters_are_sound.Goals as goal
-
-pub returns : goal.returns
-returns c = filter_sound

@@ -1,0 +1,7 @@
+mod Numbers
+mod Sound
+mod Terms
+mod Complete
+pub mod Texts
+pub mod ParserParts
+pub mod ParserWhole

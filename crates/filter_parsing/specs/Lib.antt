@@ -1,0 +1,5 @@
+pub mod Grammar
+pub mod Limits
+pub mod Parses
+pub mod Parts
+pub mod Reading
