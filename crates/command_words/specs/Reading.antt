@@ -1,4 +1,4 @@
--- How the words are read: what was given so far, and what the words behind give.
+-- How the words are read: what was given so far, and what the words after it give.
 use Rattle.std.specs.Prelude.{◌≡◌, ℕ, List, ◌++◌, map, Option, None, Some, Result, Ok, Err}
 use Rattle.std.specs.Option.{option_map}
 use Rattle.command_words.specs.Scan.{Given}
@@ -6,8 +6,8 @@ use Rattle.command_words.specs.declared.scan.ScanWords.{ScanWords}
 use Rattle.command_words.specs.declared.fault.WordFault.{WordFault}
 use Rattle.command_words.specs.declared.fault.WordFault.TheVariants.{Usage, NoMemory}
 
-abbrev pub given : ScanWords → Given
-given words = record { filter = option_map (λ text. text.now) words.filter; paths = map (λ text. text.now) words.paths.items }
+abbrev pub texts_of : ScanWords → Given
+texts_of words = record { filter = option_map (λ text. text.now) words.filter; paths = map (λ text. text.now) words.paths.items }
 
 -- the filter may be given once
 abbrev pub one_filter : Option (List ℕ) → Option (List ℕ) → List (List ℕ) → Option Given
@@ -19,8 +19,8 @@ abbrev pub before : Given → Option Given → Option Given
 before given None = None
 before given (Some more) = one_filter given.filter more.filter (given.paths ++ more.paths)
 
--- what a reader of words answers
-abbrev pub Reads : {A B : Type 0} → (A → B) → Result A WordFault → Option B → Type 0
-Reads view (Ok a) defined = defined ≡ Some (view a)
-Reads view (Err Usage) defined = defined ≡ None
-Reads view (Err NoMemory) defined = Unit {0}
+-- the same is given, or the words aren't the command's. Out of memory says nothing
+abbrev pub ReadsWords : {A B : Type 0} → (A → B) → Result A WordFault → Option B → Type 0
+ReadsWords view (Ok words) defined = defined ≡ Some (view words)
+ReadsWords view (Err Usage) defined = defined ≡ None
+ReadsWords view (Err NoMemory) defined = Unit {0}

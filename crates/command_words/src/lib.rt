@@ -2,7 +2,7 @@
 //!
 //! | Module | What it holds |
 //! |---|---|
-//! | `scan` | `scan_words`: a filter and paths from the words behind `scan` |
+//! | `scan` | `scan_words`: a filter and paths from the words after `scan` |
 //! | `fault` | `WordFault`: the words aren't the command's |
 #![tactic(auto)]
 

@@ -1,11 +1,13 @@
-//! The words behind `scan`: `[--where FILTER] PATH..`.
+//! The words after `scan`: `[--where FILTER] PATH..`.
 
 ghost use Rattle.std.specs.Prelude.{◌≡◌, None, Some, codes};
-ghost use Rattle.std.specs.Option.{option_map};
-ghost use Rattle.command_words.specs.Scan.{past, behind_front, is_dashed, with_filter, given_by, scan_words};
-ghost use Rattle.command_words.specs.Reading.{given, before, Reads};
+ghost use Rattle.byte_parsing.specs.Outcome.{Finds, Reads};
+ghost use Rattle.byte_parsing.specs.Parse.{past_word};
+ghost use Rattle.command_words.specs.Reading.{texts_of, before, ReadsWords};
+ghost use Rattle.command_words.specs.Scan.{is_dashed, with_filter, reading_of, scan_words};
 
 use crate::fault::WordFault;
+use byte_parsing::{Absent, Refused, after_bytes};
 use std::alloc::Global;
 use vs_bytes::Text;
 
@@ -29,32 +31,11 @@ fn is_dashed(word: &[u8]) -> bool
     }
 }
 
-/// What is behind a byte, where some bytes begin with it.
-fn after_byte(bytes: &[u8], byte: u8) -> Option<&[u8]>
-    ensures { option_map (λ rest. rest.now) result ≡ past byte bytes.now }
-{
-    match bytes {
-        [first, behind @ ..] if *first == byte => Some(behind),
-        _ => None,
-    }
-}
-
-/// What is behind a front, where a word begins with it.
-fn behind_front<'a>(word: &'a [u8], front: &[u8]) -> Option<&'a [u8]>
-    ensures { option_map (λ rest. rest.now) result ≡ behind_front front.now word.now }
-{
-    let mut rest = word;
-    for byte in front {
-        rest = after_byte(rest, *byte)?;
-    }
-    Some(rest)
-}
-
 /// The value of a word `--where=VALUE`.
 fn value_of(word: &str) -> Option<&str>
-    ensures { option_map (λ value. value.now) result ≡ behind_front (codes "--where=") word.now }
+    ensures { Finds (λ value. value.now) result (past_word (codes "--where=") word.now) }
 {
-    match behind_front(word.as_bytes(), b"--where=") {
+    match after_bytes(word.as_bytes(), b"--where=") {
         Some(bytes) => match std::str::from_utf8(bytes) {
             Ok(value) => Some(value),
             Err(_) => None,
@@ -65,19 +46,19 @@ fn value_of(word: &str) -> Option<&str>
 
 impl<'a> ScanWords<'a> {
     /// Takes a filter's text. It may not begin with `-`, and none may stand there yet.
-    fn take_filter(&mut self, value: &'a str) -> Result<(), WordFault>
-        ensures { Reads (λ done. given self.new) result (with_filter value.now (Some (given self.old))) }
+    fn take_filter(&mut self, value: &'a str) -> Result<(), Refused<Absent>>
+        ensures { Reads (λ done. texts_of self.new) result (with_filter value.now (Some (texts_of self.old))) }
     {
         if is_dashed(value.as_bytes()) || self.filter.is_some() {
-            return Err(WordFault::Usage);
+            return Err(Refused::Fault(Absent));
         }
         self.filter = Some(value);
         Ok(())
     }
 
     /// Takes words as the texts of paths.
-    fn take_paths(&mut self, words: &'a [Text]) -> Result<(), WordFault>
-        ensures { Reads (λ done. given self.new) result (before (given self.old) (Some (record { filter = None; paths = words.now }))) }
+    fn take_paths(&mut self, words: &'a [Text]) -> Result<(), Refused<Absent>>
+        ensures { Reads (λ done. texts_of self.new) result (before (texts_of self.old) (Some (record { filter = None; paths = words.now }))) }
     {
         for word in words {
             self.paths.push(word.as_str())?;
@@ -87,37 +68,37 @@ impl<'a> ScanWords<'a> {
 }
 
 /// Reads the words in turn.
-fn read_words<'a>(alloc: Global, words: &'a [Text]) -> Result<ScanWords<'a>, WordFault>
-    ensures { Reads given result (given_by words.now) }
+fn read_words<'a>(alloc: Global, words: &'a [Text]) -> Result<ScanWords<'a>, Refused<Absent>>
+    ensures { Reads texts_of result (reading_of words.now) }
 {
     let mut read = ScanWords {
         filter: None,
         paths: Vec::new(alloc),
     };
     let mut rest = words;
-    while let [word, behind @ ..] = rest {
+    while let [word, more @ ..] = rest {
         let text = word.as_str();
-        rest = behind;
+        rest = more;
         if text.as_bytes() == b"--".as_slice() {
-            match read.take_paths(behind) {
+            match read.take_paths(more) {
                 Ok(()) => return Ok(read),
-                Err(fault) => return Err(fault),
+                Err(refused) => return Err(refused),
             }
         } else if text.as_bytes() == b"--where".as_slice() {
-            let [value, others @ ..] = behind else {
-                return Err(WordFault::Usage);
+            let [value, others @ ..] = more else {
+                return Err(Refused::Fault(Absent));
             };
             match read.take_filter(value.as_str()) {
                 Ok(()) => rest = others,
-                Err(fault) => return Err(fault),
+                Err(refused) => return Err(refused),
             }
         } else if let Some(value) = value_of(text) {
             match read.take_filter(value) {
                 Ok(()) => {}
-                Err(fault) => return Err(fault),
+                Err(refused) => return Err(refused),
             }
         } else if is_dashed(text.as_bytes()) {
-            return Err(WordFault::Usage);
+            return Err(Refused::Fault(Absent));
         } else {
             read.paths.push(text)?;
         }
@@ -125,9 +106,9 @@ fn read_words<'a>(alloc: Global, words: &'a [Text]) -> Result<ScanWords<'a>, Wor
     Ok(read)
 }
 
-/// The filter and the paths that the words behind `scan` give: one path at least, and 64 at most.
+/// The filter and the paths that the words after `scan` give: one path at least, and 64 at most.
 pub fn scan_words<'a>(alloc: Global, words: &'a [Text]) -> Result<ScanWords<'a>, WordFault>
-    ensures { Reads given result (scan_words words.now) }
+    ensures { ReadsWords texts_of result (scan_words words.now) }
 {
     match read_words(alloc, words) {
         Ok(read) => {
@@ -136,6 +117,7 @@ pub fn scan_words<'a>(alloc: Global, words: &'a [Text]) -> Result<ScanWords<'a>,
             }
             Ok(read)
         }
-        Err(fault) => Err(fault),
+        Err(Refused::Fault(Absent)) => Err(WordFault::Usage),
+        Err(Refused::NoMemory) => Err(WordFault::NoMemory),
     }
 }
