@@ -1,6 +1,15 @@
 -- The bytes to which a grammar of texts gives a meaning, by name (ASCII).
 use Rattle.std.specs.Prelude.{ℕ}
 
+abbrev pub tab : ℕ
+tab = 9
+
+abbrev pub line_feed : ℕ
+line_feed = 10
+
+abbrev pub carriage_return : ℕ
+carriage_return = 13
+
 abbrev pub space : ℕ
 space = 32
 
@@ -34,8 +43,14 @@ minus_sign = 45
 abbrev pub dot : ℕ
 dot = 46
 
+abbrev pub slash : ℕ
+slash = 47
+
 abbrev pub digit_zero : ℕ
 digit_zero = 48
+
+abbrev pub digit_one : ℕ
+digit_one = 49
 
 abbrev pub digit_nine : ℕ
 digit_nine = 57
@@ -70,7 +85,7 @@ open_brace = 123
 abbrev pub close_brace : ℕ
 close_brace = 125
 
--- The first and the last letters, and the letters that have a meaning of their own.
+-- Letters: the first and the last, and those with which a word begins or that have a meaning of their own.
 
 abbrev pub upper_a : ℕ
 upper_a = 65
@@ -84,8 +99,29 @@ upper_z = 90
 abbrev pub lower_a : ℕ
 lower_a = 97
 
+abbrev pub lower_b : ℕ
+lower_b = 98
+
 abbrev pub lower_e : ℕ
 lower_e = 101
+
+abbrev pub lower_f : ℕ
+lower_f = 102
+
+abbrev pub lower_m : ℕ
+lower_m = 109
+
+abbrev pub lower_n : ℕ
+lower_n = 110
+
+abbrev pub lower_r : ℕ
+lower_r = 114
+
+abbrev pub lower_t : ℕ
+lower_t = 116
+
+abbrev pub lower_u : ℕ
+lower_u = 117
 
 abbrev pub lower_z : ℕ
 lower_z = 122

@@ -2,7 +2,7 @@
 use Rattle.std.specs.Prelude.{◌≡◌, ◌==◌, nat_le, ℕ, ◌≤◌, ◌⊎◌, List, [], ◌∷◌, Bool, true, false, ◌&&◌, ◌||◌, if◌then◌else◌, Option, Some, None}
 use Rattle.std.specs.List.{AllByRecursion, list_all}
 use Rattle.std.specs.Option.{option_map}
-use Rattle.byte_parsing.specs.Bytes.{space, plus_sign, minus_sign, dot, digit_zero, digit_nine, underscore, upper_a, upper_e, upper_z, lower_a, lower_e, lower_z}
+use Rattle.byte_parsing.specs.Bytes.{space, plus_sign, minus_sign, dot, digit_zero, digit_one, digit_nine, underscore, upper_a, upper_e, upper_z, lower_a, lower_e, lower_z}
 use Rattle.byte_parsing.specs.Parse.{and_then, front, back, past_word}
 
 abbrev pub is_empty : List ℕ → Bool
@@ -24,7 +24,7 @@ is_whole (x ∷ xs) = if x == digit_zero then is_empty xs else true
 
 abbrev pub IsWhole : List ℕ → Type 0
 IsWhole [] = ⊥
-IsWhole (x ∷ xs) = ((x ≡ digit_zero) × (xs ≡ [])) ⊎ ((49 ≤ x) × (x ≤ digit_nine) × AllByRecursion IsDigit xs)
+IsWhole (x ∷ xs) = ((x ≡ digit_zero) × (xs ≡ [])) ⊎ ((digit_one ≤ x) × (x ≤ digit_nine) × AllByRecursion IsDigit xs)
 
 -- the bytes of which JSON's numbers consist: 0-9 + - . e E
 abbrev pub is_numeric : ℕ → Bool
