@@ -1,1 +1,2 @@
+-- what comes after the `=` of an option is text
 pub mod Fronts

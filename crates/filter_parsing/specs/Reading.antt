@@ -3,7 +3,7 @@
 -- recursion's measure.
 use Rattle.std.specs.Prelude.{◌==◌, nat_le, ℕ, ◌+◌, suc, zero, List, [], ◌∷◌, Bool, true, false, if◌then◌else◌, Option, Some, None, Result, Ok, Err, codes, length}
 use Rattle.std.specs.Option.{option_map}
-use Rattle.byte_parsing.specs.Bytes.{exclamation_mark, quote, open_parenthesis, close_parenthesis, less_sign, equals_sign, greater_sign}
+use Rattle.byte_parsing.specs.Bytes.{exclamation_mark, quote, open_parenthesis, close_parenthesis, less_sign, equals_sign, greater_sign, lower_e, lower_f, lower_m, lower_n, lower_t}
 use Rattle.byte_parsing.specs.Parse.{Parse, and_then, front, back, past}
 use Rattle.byte_parsing.specs.Words.{is_numeric, gap_of, past_gap, past_whole_word, worded}
 use Rattle.exact_num.specs.Decimal.{Decimal}
@@ -16,23 +16,6 @@ use Rattle.query_tree.specs.declared.filter.Relation.TheVariants.{Equal, NotEqua
 use Rattle.path_parsing.specs.Reading.{path_at}
 use Rattle.filter_parsing.specs.Grammar.{LiteralSyntax, null_word, truth_word, digits, string, TestSyntax, exists_word, missing_word, related, FilterSyntax, tested, denied, bracketed, both, either, terms}
 use Rattle.filter_parsing.specs.Limits.{most_bytes, most_terms, most_nesting}
-
--- The first letters of the words.
-
-abbrev pub letter_e : ℕ
-letter_e = 101
-
-abbrev pub letter_f : ℕ
-letter_f = 102
-
-abbrev pub letter_m : ℕ
-letter_m = 109
-
-abbrev pub letter_n : ℕ
-letter_n = 110
-
-abbrev pub letter_t : ℕ
-letter_t = 116
 
 -- a relation, with or without `=` after its first byte
 abbrev pub or_equal : Relation → Relation → List ℕ → Option (List ℕ) → Option (Relation × List ℕ)
@@ -66,9 +49,9 @@ unfoldable pub literal_at : Parse LiteralSyntax
 literal_at [] = None
 literal_at (x ∷ xs) =
     if x == quote then string_literal xs
-    else (if x == letter_n then worded null_word (past_whole_word (codes "null") (x ∷ xs))
-    else (if x == letter_t then worded (truth_word true) (past_whole_word (codes "true") (x ∷ xs))
-    else (if x == letter_f then worded (truth_word false) (past_whole_word (codes "false") (x ∷ xs))
+    else (if x == lower_n then worded null_word (past_whole_word (codes "null") (x ∷ xs))
+    else (if x == lower_t then worded (truth_word true) (past_whole_word (codes "true") (x ∷ xs))
+    else (if x == lower_f then worded (truth_word false) (past_whole_word (codes "false") (x ∷ xs))
     else number_at (x ∷ xs))))
 
 -- Tests and terms.
@@ -79,8 +62,8 @@ related_at xs = and_then (relation_at xs) (λ r. option_map (λ l. (related r.0 
 unfoldable pub test_at : Parse TestSyntax
 test_at [] = None
 test_at (x ∷ xs) =
-    if x == letter_e then worded exists_word (past_whole_word (codes "exists") (x ∷ xs))
-    else (if x == letter_m then worded missing_word (past_whole_word (codes "missing") (x ∷ xs))
+    if x == lower_e then worded exists_word (past_whole_word (codes "exists") (x ∷ xs))
+    else (if x == lower_m then worded missing_word (past_whole_word (codes "missing") (x ∷ xs))
     else related_at (x ∷ xs))
 
 unfoldable pub term_at : Parse FilterSyntax
@@ -125,7 +108,7 @@ bracketed_at unit xs =
 abbrev pub unit_by : Parse FilterSyntax → Parse FilterSyntax → Parse FilterSyntax
 unit_by after_not after_bracket [] = None
 unit_by after_not after_bracket (x ∷ xs) =
-    if x == letter_n then and_then (past_whole_word (codes "not") (x ∷ xs)) after_not
+    if x == lower_n then and_then (past_whole_word (codes "not") (x ∷ xs)) after_not
     else (if x == open_parenthesis then after_bracket xs
     else term_at (x ∷ xs))
 

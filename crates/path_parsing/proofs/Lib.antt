@@ -1,10 +1,20 @@
+-- the canonical text of a path is no longer than the path, and its steps have a text
 pub mod CanonicalLengths
+-- the canonical text of steps is a path of them
 pub mod CanonicalTexts
+-- what is spelled is read
 pub mod Complete
+-- the digits that an index is printed with
 pub mod Decimals
+-- an index fits into 32 bits
 pub mod Indexes
+-- the lengths of what is spelled
 pub mod Lengths
+-- what is read is spelled
 pub mod Sound
+-- what is read of a string is spelled
 pub mod Strings
+-- whole texts
 pub mod Texts
+-- one turn of the loop over steps
 pub mod Turns
