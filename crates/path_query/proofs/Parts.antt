@@ -9,7 +9,7 @@ use Rattle.json_tree.specs.declared.types.Tree.{Tree, Array, the_lemmas}
 use Rattle.json_tree.specs.declared.types.Items.{Items}
 use Rattle.query_tree.specs.declared.step.Step.{Step}
 use Rattle.query_tree.specs.declared.step.Step.TheVariants.{Field, Index, Star}
-use Rattle.path_query.specs.Matches.{all_of, listed, taken}
+use Rattle.path_query.specs.Matches.{all_of, list_of, parts_at}
 
 items_listed : (js : List Json) → items_of (parts_of js) ≡ js
 items_listed [] = refl
@@ -21,15 +21,15 @@ view_array items = search (rules, the_lemmas)
 pub items_seen : (t : Tree) (items : Items) (ts : List Tree) → t ≡ Array items → items_view items ≡ parts_of (map view ts) → map view ts ≡ all_of (view t)
 items_seen t items ts e f = sym (ap all_of (ap view e ∙ view_array items ∙ ap array f) ∙ items_listed (map view ts))
 
-member_ordered : (name : List ℕ) (fs : Fields) → HoldOrdered fs → AreOrdered (parts_of (listed (member_of name fs)))
+member_ordered : (name : List ℕ) (fs : Fields) → HoldOrdered fs → AreOrdered (parts_of (list_of (member_of name fs)))
 member_ordered name no_fields h = tt
 member_ordered name (field other j fs) h = by (bytes_eq other name) (member_ordered name fs h.1)
   where
-    by : (b : Bool) → AreOrdered (parts_of (listed (member_of name fs))) → AreOrdered (parts_of (listed (cond b (Some j) (member_of name fs))))
+    by : (b : Bool) → AreOrdered (parts_of (list_of (member_of name fs))) → AreOrdered (parts_of (list_of (cond b (Some j) (member_of name fs))))
     by true k = (h.0, tt)
     by false k = k
 
-item_ordered : (n : ℕ) (ps : Parts) → AreOrdered ps → AreOrdered (parts_of (listed (slice_get (items_of ps) n)))
+item_ordered : (n : ℕ) (ps : Parts) → AreOrdered ps → AreOrdered (parts_of (list_of (slice_get (items_of ps) n)))
 item_ordered n no_parts h = tt
 item_ordered zero (part j ps) h = (h.0, tt)
 item_ordered (suc n) (part j ps) h = item_ordered n ps h.1
@@ -39,7 +39,7 @@ items_ordered no_parts h = tt
 items_ordered (part j ps) h = (h.0, items_ordered ps h.1)
 
 -- the parts of an ordered value are ordered
-taken_ordered : (step : Step) (json : Json) → IsOrdered json → AreOrdered (parts_of (taken step json))
+taken_ordered : (step : Step) (json : Json) → IsOrdered json → AreOrdered (parts_of (parts_at step json))
 taken_ordered (Field name) null h = tt
 taken_ordered (Field name) (boolean b) h = tt
 taken_ordered (Field name) (number d) h = tt
@@ -59,5 +59,5 @@ taken_ordered Star (text s) h = tt
 taken_ordered Star (array ps) h = items_ordered ps h
 taken_ordered Star (object fs) h = tt
 
-pub ordered_as : (step : Step) (json : Json) (js : List Json) → js ≡ taken step json → IsOrdered json → AreOrdered (parts_of js)
+pub ordered_as : (step : Step) (json : Json) (js : List Json) → js ≡ parts_at step json → IsOrdered json → AreOrdered (parts_of js)
 ordered_as step json js e h = subst (λ xs. AreOrdered (parts_of xs)) (sym e) (taken_ordered step json h)

@@ -1,4 +1,4 @@
--- Texts behind commas, and the bracket in place of the first comma.
+-- Texts after commas, and the bracket in place of the first comma.
 use Rattle.std.proofs.Common.{◌≡◌, ◌∙◌, ℕ, ◌+◌, ◌<◌, ◌≤◌, subst, arith, List, [], ◌∷◌, ◌++◌, length, take, drop, get_or, map, refl, sym, ap, append_assoc, Option, Some, None}
 use Rattle.std.proofs.Math.Seq.{take-append_seam, drop-append-add}
 use Rattle.std.proofs.lemmas.List.{drop_more, length-take, take-append-le, take-append-drop}
@@ -12,7 +12,7 @@ use Rattle.json_tree.specs.declared.types.Tree.{Tree, Null}
 use Rattle.query_tree.specs.View.{steps_of}
 use Rattle.query_tree.specs.declared.path.Path.{Path}
 use Rattle.query_tree.specs.declared.step.Step.{Step}
-use Rattle.path_query.specs.Answer.{with_member, shown, members, behind_commas, parted, line_of}
+use Rattle.path_query.specs.Answer.{with_member, value_text, members, after_commas, list_text, line_of}
 use Rattle.path_query.specs.Matches.{matches, at}
 use Rattle.path_query.specs.Members.{member_text}
 
@@ -24,7 +24,7 @@ starts_again new now old e f =
     ∙ take-append-le (length old) (take (length now) new) (drop (length now) new) (omega (arith, ap length e))
     ∙ ap (take (length old)) e ∙ f
 
--- the parts behind the first of ordered parts are ordered
+-- the parts after the first of ordered parts are ordered
 pub ordered_turn : (ts : List Tree) (i : ℕ) → i < length ts → AreOrdered (parts_of (map view (drop i ts))) → AreOrdered (parts_of (map view (drop (i + 1) ts)))
 ordered_turn ts i lt h = let more : drop i ts ≡ get_or ts i Null ∷ drop (i + 1) ts = drop_more ts i Null lt in
     let all : AreOrdered (parts_of (map view (get_or ts i Null ∷ drop (i + 1) ts))) = subst (λ (xs : List Tree). AreOrdered (parts_of (map view xs))) more h in
@@ -34,7 +34,7 @@ more_joined : (xs ys : List Json) → more_parts (parts_of (xs ++ ys)) ≡ more_
 more_joined [] ys = refl
 more_joined (x ∷ xs) ys = rw (more_joined xs ys) (ap (λ (s : List ℕ). 44 ∷ s) (sym (append_assoc (text_of x) (more_parts (parts_of xs)) (more_parts (parts_of ys)))))
 
--- the matches in one part are printed, and those in the parts behind it are ahead
+-- the matches in one part are printed, and those in the parts after it are ahead
 pub matches_turn : (now new all : List ℕ) (steps : List Step) (ts : List Tree) (i : ℕ) (t : Tree) → i < length ts → t ≡ get_or ts i t
     → now ++ more_parts (parts_of (flat_map (matches steps) (map view (drop i ts)))) ≡ all
     → new ≡ now ++ more_parts (parts_of (matches steps (view t)))
@@ -49,23 +49,23 @@ matches_turn now new all steps ts i t lt e before done =
     ∙ ap (λ (xs : List Tree). now ++ more_parts (parts_of (flat_map (matches steps) (map view xs)))) (sym more)
     ∙ before
 
-member_first : (steps : List Step) (text : Option (List ℕ)) (others : List (List ℕ)) → behind_commas (with_member steps text others) ≡ member_text steps text ++ behind_commas others
+member_first : (steps : List Step) (text : Option (List ℕ)) (others : List (List ℕ)) → after_commas (with_member steps text others) ≡ member_text steps text ++ after_commas others
 member_first steps None others = refl
 member_first steps (Some text) others = simp append_assoc
 
--- the member of one path is printed, and those of the paths behind it are ahead
+-- the member of one path is printed, and those of the paths after it are ahead
 pub members_turn : (now new all : List ℕ) (paths : List Path) (row : Option Json) (i : ℕ) (path : Path) → i < length paths → path ≡ get_or paths i path
-    → now ++ behind_commas (members (map steps_of (drop i paths)) row) ≡ all
-    → new ≡ now ++ member_text (steps_of path) (shown (steps_of path) (at (steps_of path) row))
-    → new ++ behind_commas (members (map steps_of (drop (i + 1) paths)) row) ≡ all
+    → now ++ after_commas (members (map steps_of (drop i paths)) row) ≡ all
+    → new ≡ now ++ member_text (steps_of path) (value_text (steps_of path) (at (steps_of path) row))
+    → new ++ after_commas (members (map steps_of (drop (i + 1) paths)) row) ≡ all
 members_turn now new all paths row i path lt e before done =
-    let here : Option (List ℕ) = shown (steps_of path) (at (steps_of path) row) in
+    let here : Option (List ℕ) = value_text (steps_of path) (at (steps_of path) row) in
     let behind : List (List ℕ) = members (map steps_of (drop (i + 1) paths)) row in
     let more : drop i paths ≡ path ∷ drop (i + 1) paths = drop_more paths i path lt ∙ ap (λ (x : Path). x ∷ drop (i + 1) paths) (sym e) in
-    ap (λ (s : List ℕ). s ++ behind_commas behind) done
-    ∙ append_assoc now (member_text (steps_of path) here) (behind_commas behind)
+    ap (λ (s : List ℕ). s ++ after_commas behind) done
+    ∙ append_assoc now (member_text (steps_of path) here) (after_commas behind)
     ∙ ap (λ (s : List ℕ). now ++ s) (sym (member_first (steps_of path) here behind))
-    ∙ ap (λ (xs : List Path). now ++ behind_commas (members (map steps_of xs) row)) (sym more)
+    ∙ ap (λ (xs : List Path). now ++ after_commas (members (map steps_of xs) row)) (sym more)
     ∙ before
 
 opened : (old more : List ℕ) (bracket : ℕ) → take (length old) (old ++ more) ++ bracket ∷ drop (length old + 1) (old ++ more) ≡ old ++ bracket ∷ drop 1 more
@@ -79,7 +79,7 @@ parts_opened : (ps : Parts) → drop 1 (more_parts ps) ≡ parts_text ps
 parts_opened no_parts = refl
 parts_opened (part j ps) = refl
 
-members_opened : (texts : List (List ℕ)) → drop 1 (behind_commas texts) ≡ parted texts
+members_opened : (texts : List (List ℕ)) → drop 1 (after_commas texts) ≡ list_text texts
 members_opened [] = refl
 members_opened (text ∷ texts) = refl
 
@@ -87,6 +87,6 @@ pub array_printed : (old now new : List ℕ) (start : ℕ) (js : List Json) → 
 array_printed old now new start js s e f =
     closed old now new (more_parts (parts_of js)) (93 ∷ []) start 91 s e f ∙ ap (λ (xs : List ℕ). old ++ 91 ∷ (xs ++ 93 ∷ [])) (parts_opened (parts_of js))
 
-pub line_printed : (old now new : List ℕ) (start : ℕ) (paths : List (List Step)) (row : Option Json) → start ≡ length old → now ≡ old ++ behind_commas (members paths row) → new ≡ take start now ++ 123 ∷ drop (start + 1) now → new ++ 125 ∷ (10 ∷ []) ≡ old ++ line_of paths row
+pub line_printed : (old now new : List ℕ) (start : ℕ) (paths : List (List Step)) (row : Option Json) → start ≡ length old → now ≡ old ++ after_commas (members paths row) → new ≡ take start now ++ 123 ∷ drop (start + 1) now → new ++ 125 ∷ (10 ∷ []) ≡ old ++ line_of paths row
 line_printed old now new start paths row s e f =
-    closed old now new (behind_commas (members paths row)) (125 ∷ (10 ∷ [])) start 123 s e f ∙ ap (λ (xs : List ℕ). old ++ 123 ∷ (xs ++ 125 ∷ (10 ∷ []))) (members_opened (members paths row))
+    closed old now new (after_commas (members paths row)) (125 ∷ (10 ∷ [])) start 123 s e f ∙ ap (λ (xs : List ℕ). old ++ 123 ∷ (xs ++ 125 ∷ (10 ∷ []))) (members_opened (members paths row))

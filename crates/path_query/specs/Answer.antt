@@ -1,5 +1,6 @@
 -- What a query answers: the printed line of a row, and the lines of all rows.
-use Rattle.std.specs.Prelude.{ℕ, List, [], ◌∷◌, ◌++◌, Bool, true, cond, Option, None, Some}
+use Rattle.std.specs.Prelude.{ℕ, List, [], ◌∷◌, ◌++◌, Bool, true, if◌then◌else◌, Option, None, Some}
+use Rattle.byte_parsing.specs.Bytes.{line_feed, comma, colon, open_brace, close_brace}
 use Rattle.json_tree.specs.Json.{Json, array, parts_of}
 use Rattle.json_tree.specs.Text.{quoted, text_of}
 use Rattle.query_tree.specs.Asked.{Asked}
@@ -15,32 +16,32 @@ first_text [] = None
 first_text (json ∷ more) = Some (text_of json)
 
 -- what a path has to show: with a star the array of its matches, else its match, or nothing
-abbrev pub shown : List Step → List Json → Option (List ℕ)
-shown steps found = cond (has_star steps) (Some (text_of (array (parts_of found)))) (first_text found)
+abbrev pub value_text : List Step → List Json → Option (List ℕ)
+value_text steps found = if has_star steps then Some (text_of (array (parts_of found))) else first_text found
 
 -- a member of a printed line, before others
 abbrev pub with_member : List Step → Option (List ℕ) → List (List ℕ) → List (List ℕ)
 with_member steps None others = others
-with_member steps (Some text) others = (quoted (path_text steps) ++ 58 ∷ text) ∷ others
+with_member steps (Some text) others = (quoted (path_text steps) ++ colon ∷ text) ∷ others
 
 -- the members of a printed line: of each path that has something to show, in the order of the paths
 abbrev pub members : List (List Step) → Option Json → List (List ℕ)
 members [] row = []
-members (steps ∷ paths) row = with_member steps (shown steps (at steps row)) (members paths row)
+members (steps ∷ paths) row = with_member steps (value_text steps (at steps row)) (members paths row)
 
 -- with a comma before each
-abbrev pub behind_commas : List (List ℕ) → List ℕ
-behind_commas [] = []
-behind_commas (text ∷ texts) = 44 ∷ (text ++ behind_commas texts)
+abbrev pub after_commas : List (List ℕ) → List ℕ
+after_commas [] = []
+after_commas (text ∷ texts) = comma ∷ (text ++ after_commas texts)
 
 -- with a comma between two of them
-abbrev pub parted : List (List ℕ) → List ℕ
-parted [] = []
-parted (text ∷ texts) = text ++ behind_commas texts
+abbrev pub list_text : List (List ℕ) → List ℕ
+list_text [] = []
+list_text (text ∷ texts) = text ++ after_commas texts
 
--- the line of a row: an object of what the paths have to show, and LF
+-- the line of a row: an object of what the paths have to show, and a line feed
 abbrev pub line_of : List (List Step) → Option Json → List ℕ
-line_of paths row = 123 ∷ (parted (members paths row) ++ 125 ∷ (10 ∷ []))
+line_of paths row = open_brace ∷ (list_text (members paths row) ++ close_brace ∷ (line_feed ∷ []))
 
 -- whether a row is answered: without a filter, each is
 abbrev pub passes : Option Formula → Option Json → Bool
@@ -48,10 +49,10 @@ passes None row = true
 passes (Some formula) row = holds formula row
 
 -- what is printed for a row: its line, or nothing
-unfoldable pub printed : Asked → Option Json → List ℕ
-printed asked row = cond (passes asked.filter row) (line_of asked.paths row) []
+unfoldable pub output_of : Asked → Option Json → List ℕ
+output_of asked row = if passes asked.filter row then line_of asked.paths row else []
 
 -- the lines of the rows on which the filter holds, in order
 abbrev pub answer_of : Asked → List (Option Json) → List ℕ
 answer_of asked [] = []
-answer_of asked (row ∷ rows) = printed asked row ++ answer_of asked rows
+answer_of asked (row ∷ rows) = output_of asked row ++ answer_of asked rows

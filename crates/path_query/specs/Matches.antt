@@ -15,7 +15,7 @@ field_of name (text s) = None
 field_of name (array ps) = None
 field_of name (object fs) = member_of name fs
 
--- the items of an array; any other value has none
+-- the elements of an array; any other value has none
 abbrev pub all_of : Json → List Json
 all_of null = []
 all_of (boolean b) = []
@@ -24,21 +24,21 @@ all_of (text s) = []
 all_of (array ps) = items_of ps
 all_of (object fs) = []
 
-abbrev pub listed : Option Json → List Json
-listed None = []
-listed (Some json) = json ∷ []
+abbrev pub list_of : Option Json → List Json
+list_of None = []
+list_of (Some json) = json ∷ []
 
--- the parts of a value that a step keeps: its member of that name, its item at that place (from 0), or all
--- its items
-abbrev pub taken : Step → Json → List Json
-taken (Field name) json = listed (field_of name json)
-taken (Index n) json = listed (slice_get (all_of json) n)
-taken Star json = all_of json
+-- the parts of a value that a step keeps: its member of that name, its element at that place (from 0), or
+-- all its elements
+abbrev pub parts_at : Step → Json → List Json
+parts_at (Field name) json = list_of (field_of name json)
+parts_at (Index n) json = list_of (slice_get (all_of json) n)
+parts_at Star json = all_of json
 
 -- a path keeps the value itself, or the matches of its further steps in the parts that its first step keeps
 abbrev pub matches : List Step → Json → List Json
 matches [] json = json ∷ []
-matches (step ∷ steps) json = flat_map (matches steps) (taken step json)
+matches (step ∷ steps) json = flat_map (matches steps) (parts_at step json)
 
 -- an absent row has no match
 abbrev pub at : List Step → Option Json → List Json

@@ -13,7 +13,7 @@ use query_tree::{Path, Step};
 use std::alloc::Global;
 use vs_bytes::NoMemory;
 
-// Puts the matches of the steps behind those that were found.
+// Puts the matches of the steps after those that were found.
 fn collect<'t>(steps: &[Step], tree: &'t Tree, into: &mut Vec<&'t Tree>) -> Result<(), NoMemory>
     requires { IsOrdered (view tree.now) }
     ensures { OnOk result (found_of into.new.items ≡ found_of into.old.items ++ matches steps.now (view tree.now)) }

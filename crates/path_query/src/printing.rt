@@ -5,15 +5,16 @@
 
 ghost use Rattle.std.specs.Prelude.{◌≡◌, ◌≤◌, ◌+◌, ◌∷◌, ◌++◌, [], false, take, drop, map, length, OnOk, OnErr};
 ghost use Rattle.std.specs.Io.{StartsWith};
+ghost use Rattle.byte_parsing.specs.Bytes.{comma, colon};
 ghost use Rattle.json_tree.specs.Json.{array, parts_of};
 ghost use Rattle.json_tree.specs.Order.{IsOrdered};
 ghost use Rattle.json_tree.specs.Text.{quoted, text_of, more_parts};
 ghost use Rattle.json_tree.specs.View.{view};
-ghost use Rattle.query_tree.specs.Asked.{asked};
+ghost use Rattle.query_tree.specs.Asked.{query_of};
 ghost use Rattle.query_tree.specs.PathText.{path_text, has_star};
 ghost use Rattle.query_tree.specs.View.{steps_of};
-ghost use Rattle.path_query.specs.Answer.{shown, members, behind_commas, line_of, printed};
-ghost use Rattle.path_query.specs.Matches.{listed, matches, at};
+ghost use Rattle.path_query.specs.Answer.{value_text, members, after_commas, line_of, output_of};
+ghost use Rattle.path_query.specs.Matches.{list_of, matches, at};
 ghost use Rattle.path_query.specs.Members.{member_text};
 ghost use Rattle.path_query.specs.Rows.{row_of, IsOrderedRow};
 
@@ -27,7 +28,7 @@ use vs_bytes::NoMemory;
 fn only<'t>(steps: &[Step], row: Option<&'t Tree>) -> Option<&'t Tree>
     requires ordered { IsOrderedRow (row_of row) }
     requires starless { has_star steps.now ≡ false }
-    ensures { listed (row_of result) ≡ at steps.now (row_of row.entry) }
+    ensures { list_of (row_of result) ≡ at steps.now (row_of row.entry) }
 {
     let mut here = row?;
     for step in steps {
@@ -36,7 +37,7 @@ fn only<'t>(steps: &[Step], row: Option<&'t Tree>) -> Option<&'t Tree>
     Some(here)
 }
 
-// Each match behind a comma.
+// Each match after a comma.
 fn put_matches(into: &mut Vec<u8>, steps: &[Step], tree: &Tree) -> Result<(), NoMemory>
     requires { IsOrdered (view tree.now) }
     ensures ok { OnOk result (into.new.items ≡ into.old.items ++ more_parts (parts_of (matches steps.now (view tree.now)))) }
@@ -95,7 +96,7 @@ fn put_array(into: &mut Vec<u8>, steps: &[Step], row: Option<&Tree>) -> Result<(
 
 // The member's name, between a comma and its colon.
 fn put_name(into: &mut Vec<u8>, path: &Path) -> Result<(), NoMemory>
-    ensures ok { OnOk result (into.new.items ≡ into.old.items ++ 44 ∷ (quoted (path_text (steps_of path.now)) ++ 58 ∷ [])) }
+    ensures ok { OnOk result (into.new.items ≡ into.old.items ++ comma ∷ (quoted (path_text (steps_of path.now)) ++ colon ∷ [])) }
     ensures grows { StartsWith into.new.items into.old.items }
 {
     into.push(b',')?;
@@ -106,7 +107,7 @@ fn put_name(into: &mut Vec<u8>, path: &Path) -> Result<(), NoMemory>
 
 fn put_member(into: &mut Vec<u8>, path: &Path, row: Option<&Tree>) -> Result<(), NoMemory>
     requires { IsOrderedRow (row_of row) }
-    ensures ok { OnOk result (into.new.items ≡ into.old.items ++ member_text (steps_of path.now) (shown (steps_of path.now) (at (steps_of path.now) (row_of row.entry)))) }
+    ensures ok { OnOk result (into.new.items ≡ into.old.items ++ member_text (steps_of path.now) (value_text (steps_of path.now) (at (steps_of path.now) (row_of row.entry)))) }
     ensures grows { StartsWith into.new.items into.old.items }
 {
     let steps = path.as_slice();
@@ -122,7 +123,7 @@ fn put_member(into: &mut Vec<u8>, path: &Path, row: Option<&Tree>) -> Result<(),
 
 fn put_members(into: &mut Vec<u8>, paths: &[Path], row: Option<&Tree>) -> Result<(), NoMemory>
     requires { IsOrderedRow (row_of row) }
-    ensures ok { OnOk result (into.new.items ≡ into.old.items ++ behind_commas (members (map steps_of paths.now) (row_of row.entry))) }
+    ensures ok { OnOk result (into.new.items ≡ into.old.items ++ after_commas (members (map steps_of paths.now) (row_of row.entry))) }
     ensures grows { StartsWith into.new.items into.old.items }
 {
     for path in paths {
@@ -147,7 +148,7 @@ fn put_line(into: &mut Vec<u8>, paths: &[Path], row: Option<&Tree>) -> Result<()
 /// show, and LF. After an `Err` `into` is as before.
 pub fn line(into: &mut Vec<u8>, query: &Query, row: Option<&Tree>) -> Result<(), NoMemory>
     requires { IsOrderedRow (row_of row) }
-    ensures ok { OnOk result (into.new.items ≡ into.old.items ++ line_of (asked query.now).paths (row_of row.entry)) }
+    ensures ok { OnOk result (into.new.items ≡ into.old.items ++ line_of (query_of query.now).paths (row_of row.entry)) }
     ensures err { OnErr result (into.new.items ≡ into.old.items) }
 {
     let before = into.len();
@@ -160,10 +161,10 @@ pub fn line(into: &mut Vec<u8>, query: &Query, row: Option<&Tree>) -> Result<(),
 
 /// Appends the line of a row on which the filter holds, and nothing for any other. After an `Err`
 /// `into` is as before.
-#[tactic(auto, unfolding(crate::specs::Answer::printed))]
+#[tactic(auto, unfolding(crate::specs::Answer::output_of))]
 pub fn print_row(into: &mut Vec<u8>, query: &Query, row: Option<&Tree>) -> Result<(), NoMemory>
     requires { IsOrderedRow (row_of row) }
-    ensures ok { OnOk result (into.new.items ≡ into.old.items ++ printed (asked query.now) (row_of row.entry)) }
+    ensures ok { OnOk result (into.new.items ≡ into.old.items ++ output_of (query_of query.now) (row_of row.entry)) }
     ensures err { OnErr result (into.new.items ≡ into.old.items) }
 {
     let passes = match &query.filter {

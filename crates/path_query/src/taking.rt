@@ -4,7 +4,7 @@ ghost use Rattle.std.specs.Prelude.{◌≡◌, map, option_map, slice_get};
 ghost use Rattle.json_tree.specs.Json.{parts_of};
 ghost use Rattle.json_tree.specs.Order.{IsOrdered, AreOrdered};
 ghost use Rattle.json_tree.specs.View.{view};
-ghost use Rattle.path_query.specs.Matches.{field_of, all_of, listed, taken};
+ghost use Rattle.path_query.specs.Matches.{field_of, all_of, list_of, parts_at};
 
 use json_tree::Tree;
 use query_tree::Step;
@@ -36,7 +36,7 @@ fn item<'t>(tree: &'t Tree, index: u32) -> Option<&'t Tree>
 }
 
 fn listed<'t>(found: Option<&'t Tree>) -> &'t [Tree]
-    ensures { map view result.now ≡ listed (option_map (λ found. view found.now) found.entry) }
+    ensures { map view result.now ≡ list_of (option_map (λ found. view found.now) found.entry) }
 {
     match found {
         Some(tree) => slice::from_ref(tree),
@@ -47,7 +47,7 @@ fn listed<'t>(found: Option<&'t Tree>) -> &'t [Tree]
 // The parts of a value that a step keeps, in place and in order.
 pub(crate) fn taken<'t>(step: &Step, tree: &'t Tree) -> &'t [Tree]
     requires { IsOrdered (view tree.now) }
-    ensures parts { map view result.now ≡ taken step.now (view tree.now) }
+    ensures parts { map view result.now ≡ parts_at step.now (view tree.now) }
     ensures ordered { AreOrdered (parts_of (map view result.now)) }
 {
     match step {
