@@ -1,5 +1,6 @@
 -- What a source and a sink in memory show.
-use Rattle.std.specs.Prelude.{◌≡◌, ◌↔◌, ℕ, ◌+◌, ◌-◌, ◌≤◌, ◌^◌, min, List, Contains}
+use Rattle.std.specs.Prelude.{◌≡◌, ◌↔◌, ℕ, ◌+◌, ◌-◌, ◌≤◌, ◌^◌, min, List, Contains, Some}
+use Rattle.outside.specs.Devices.{Device}
 
 -- which calls fail, how many calls there were, and how many of them failed; a count that stands at 2^64 - 1 stays there
 pub record Plan : Type 0 where
@@ -27,3 +28,10 @@ pub record Taken : Type 0 where
   pub written : List ℕ
   pub piece : ℕ
   pub plan : Plan
+
+-- both tell their bytes, and the faults that were planned
+abbrev pub source_device : Given → Device
+source_device s = record { bytes = Some s.left; faults = s.plan.faults }
+
+abbrev pub sink_device : Taken → Device
+sink_device s = record { bytes = Some s.written; faults = s.plan.faults }

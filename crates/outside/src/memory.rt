@@ -1,11 +1,9 @@
 //! Sources and sinks in memory, whose contents are known and whose faults are planned: for tests of
 //! what reads and writes in pieces, and of what a fault leaves.
 
-ghost use Rattle.std.specs.Prelude.{◌≡◌, ◌<◌, ◌≤◌, ◌-◌, ◌^◌, List, ℕ, [], Some, min, length, IfOk, IsErrOf};
-ghost use Rattle.std.specs.Io.{ReadsAtMost};
-ghost use Rattle.std.specs.Io.KnownBytes.{ReadConsumes, WriteAppends};
-ghost use Rattle.outside.specs.Devices.{HasCauseAt};
-ghost use Rattle.outside.specs.Memory.{Given, Taken, Turns};
+ghost use Rattle.std.specs.Prelude.{◌≡◌, ◌<◌, ◌≤◌, ◌-◌, ◌^◌, List, ℕ, [], min, length, IfOk, IsErrOf};
+ghost use Rattle.outside.specs.Calls.{Reads, Writes};
+ghost use Rattle.outside.specs.Memory.{Given, Taken, Turns, source_device, sink_device};
 
 use crate::fault_plan::FaultPlan;
 use crate::sink::{Sink, SinkError};
@@ -61,16 +59,11 @@ impl MemSource {
 }
 
 impl Source for MemSource {
-    ghost left = { λ s. Some s.left };
-
-    ghost faults = { λ s. s.plan.faults };
+    ghost seen = { source_device };
 
     fn read(&mut self, into: &mut [u8]) -> Result<usize, SourceError>
         requires { 0 < length into.old }
-        ensures count { ReadsAtMost result into.new }
-        ensures bytes { ReadConsumes (Some self.old.left) (Some self.new.left) result into.new }
-        ensures cause { HasCauseAt self.old.plan.faults self.new.plan.faults (IsErrOf result SourceError.Failed) }
-        ensures steady { IfOk result (λ count. self.new.plan.faults ≡ self.old.plan.faults) }
+        ensures reads { Reads (source_device self.old) (source_device self.new) into.new result }
         ensures plan { Turns self.old.plan self.new.plan (IsErrOf result SourceError.Failed) }
         ensures piece { IfOk result (λ count. count ≡ min (min self.old.piece (length into.old)) (length self.old.left)) }
         ensures pieces { self.new.piece ≡ self.old.piece }
@@ -149,17 +142,11 @@ impl MemSink {
 }
 
 impl Sink for MemSink {
-    ghost written = { λ s. Some s.written };
-
-    ghost faults = { λ s. s.plan.faults };
+    ghost seen = { sink_device };
 
     fn write(&mut self, bytes: &[u8]) -> Result<usize, SinkError>
         requires { 0 < length bytes.now }
-        ensures some { IfOk result (λ count. 0 < count) }
-        ensures count { IfOk result (λ count. count ≤ length bytes.now) }
-        ensures bytes { WriteAppends (Some self.old.written) (Some self.new.written) result bytes.now }
-        ensures cause { HasCauseAt self.old.plan.faults self.new.plan.faults (IsErrOf result SinkError.Failed) }
-        ensures steady { IfOk result (λ count. self.new.plan.faults ≡ self.old.plan.faults) }
+        ensures writes { Writes (sink_device self.old) (sink_device self.new) bytes.now result }
         ensures plan { Turns self.old.plan self.new.plan (IsErrOf result SinkError.Failed) }
         ensures piece { IfOk result (λ count. count ≡ min self.old.piece (length bytes.now)) }
         ensures pieces { self.new.piece ≡ self.old.piece }

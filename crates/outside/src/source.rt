@@ -1,9 +1,8 @@
 //! Sources of bytes.
 
-ghost use Rattle.std.specs.Prelude.{◌≡◌, ◌<◌, List, ℕ, Option, length, IfOk, IsErrOf};
-ghost use Rattle.std.specs.Io.{ReadsAtMost};
-ghost use Rattle.std.specs.Io.KnownBytes.{ReadConsumes};
-ghost use Rattle.outside.specs.Devices.{HasCauseAt};
+ghost use Rattle.std.specs.Prelude.{◌<◌, length};
+ghost use Rattle.outside.specs.Devices.{Device};
+ghost use Rattle.outside.specs.Calls.{Reads};
 
 use std::error::Error;
 use thiserror::Error;
@@ -18,19 +17,13 @@ pub enum SourceError {
 
 /// Something that bytes are read from.
 pub trait Source {
-    /// The bytes that are left, where they are known.
-    ghost left: { Self → Option (List ℕ) };
-
-    /// How often the device has failed.
-    ghost faults: { Self → ℕ };
+    /// The bytes that are left, where they are known, and how often the device has failed.
+    ghost seen: { Self → Device };
 
     /// Reads some bytes into the front of `into`, and answers how many; 0 is the end of the input.
     ///
     /// After `Failed` this call took nothing.
     fn read(&mut self, into: &mut [u8]) -> Result<usize, SourceError>
         requires { 0 < length into.old }
-        ensures count { ReadsAtMost result into.new }
-        ensures bytes { ReadConsumes (left self.old) (left self.new) result into.new }
-        ensures cause { HasCauseAt (faults self.old) (faults self.new) (IsErrOf result SourceError.Failed) }
-        ensures steady { IfOk result (λ count. faults self.new ≡ faults self.old) };
+        ensures reads { Reads (seen self.old) (seen self.new) into.new result };
 }

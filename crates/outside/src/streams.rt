@@ -38,9 +38,7 @@ impl<R: Read> StdSource<R> {
 }
 
 impl<R: Read> Source for StdSource<R> {
-    ghost left = { λ s. R.remaining (reader_of s) };
-
-    ghost faults = { read_faults };
+    ghost seen = { λ s. record { bytes = R.remaining (reader_of s); faults = read_faults s } };
 
     fn read(&mut self, into: &mut [u8]) -> Result<usize, SourceError> {
         for _turn in 0..u64::MAX {
@@ -75,9 +73,7 @@ impl<W: Write> StdSink<W> {
 }
 
 impl<W: Write> Sink for StdSink<W> {
-    ghost written = { λ s. W.contents (writer_of s) };
-
-    ghost faults = { write_faults };
+    ghost seen = { λ s. record { bytes = W.contents (writer_of s); faults = write_faults s } };
 
     fn write(&mut self, bytes: &[u8]) -> Result<usize, SinkError> {
         for _turn in 0..u64::MAX {
