@@ -1,7 +1,7 @@
 -- What the first bytes of an input say of its lines, whatever comes behind them.
-use Rattle.std.proofs.Common.{◌≡◌, ◌∙◌, ℕ, zero, suc, ◌+◌, ◌-◌, ◌<◌, ◌≤◌, true, false, ◌==◌, List, [], ◌∷◌, ◌++◌, take, drop, length, refl, ap, arith}
-use Rattle.std.proofs.lemmas.Bool.{ne_eqb, false_from_ne_true, lt-ltb, le-ltb}
-use Rattle.std.proofs.lemmas.List.{length-append}
+use Rattle.std.proofs.Common.{◌≡◌, ◌∙◌, ℕ, zero, suc, ◌+◌, ◌-◌, ◌<◌, ◌≤◌, true, false, ◌==◌, List, [], ◌∷◌, ◌++◌, take, drop, length, get_or, append_assoc, refl, sym, ap, arith}
+use Rattle.std.proofs.lemmas.Bool.{ne_eqb, eqb-true, false_from_ne_true, lt-ltb, le-ltb}
+use Rattle.std.proofs.lemmas.List.{length-append, take_more, take-append-drop}
 use Rattle.memchr.specs.Find.{Nowhere, Passes, is_byte}
 use Rattle.json_lines.specs.Cut.{Lines, none, last, over, line, found_long, prepended, lines_of, max_line, is_long, first_line}
 use Rattle.json_lines.specs.Front.{last_line}
@@ -23,6 +23,10 @@ pub past_limit : (x : ℕ) (xs : List ℕ) → lines_of 0 (x ∷ xs) ≡ over []
 unfolding lines_of
 past_limit x xs = refl
 
+-- what goes with a line, what is held after it, and the rest
+pub parted : (held rest : List ℕ) (at : ℕ) → held ++ rest ≡ take (at + 1) held ++ (drop (at + 1) held ++ rest)
+parted held rest at = ap (λ (xs : List ℕ). xs ++ rest) (sym (take-append-drop (at + 1) held)) ∙ append_assoc (take (at + 1) held) (drop (at + 1) held) rest
+
 pub no_lines : (room : ℕ) → lines_of room [] ≡ none
 unfolding lines_of
 no_lines room = refl
@@ -35,18 +39,27 @@ first_plain x xs m h plain = false_from_ne_true (x == 10) (plain 0 (omega arith)
 
 -- ---- a line whose LF stands at a place
 
+-- whatever comes after its LF
+pub ended_alone : (held tail : List ℕ) (room at : ℕ) → at < length held → at < room → Nowhere (Passes (is_byte 10) held) 0 at → Passes (is_byte 10) held at
+    → lines_of room (take (at + 1) held ++ tail) ≡ line (take at held) (lines_of (room - (at + 1)) tail)
+ended_alone [] tail room at inside within plain lf = absurd (omega arith)
+ended_alone (x ∷ xs) tail room zero inside within plain lf = at_end room x tail within lf
+ended_alone (x ∷ xs) tail room (suc k) inside within plain lf =
+    let more = ended_alone xs tail (room - 1) k (omega arith) (omega arith) (rest_plain x xs k (suc k) (omega arith) plain) lf in
+    let left : room - 1 - (k + 1) ≡ room - (suc k + 1) = omega arith in
+    let place : suc k + 1 ≡ suc (k + 1) = omega arith in
+    ap (λ (n : ℕ). lines_of room (take n (x ∷ xs) ++ tail)) place
+    ∙ in_line room x (take (k + 1) xs ++ tail) (omega arith) (first_plain x xs (suc k) (omega arith) plain)
+    ∙ ap (prepended x) more
+    ∙ ap (λ (n : ℕ). line (x ∷ take k xs) (lines_of n tail)) left
+
 pub ended : (held rest : List ℕ) (room at : ℕ) → at < length held → at < room → Nowhere (Passes (is_byte 10) held) 0 at → Passes (is_byte 10) held at
     → lines_of room (held ++ rest) ≡ line (take at held) (lines_of (room - (at + 1)) (drop (at + 1) held ++ rest))
-ended [] rest room at inside within plain lf = absurd (omega arith)
-ended (x ∷ xs) rest room zero inside within plain lf = at_end room x (xs ++ rest) within lf
-ended (x ∷ xs) rest room (suc k) inside within plain lf =
-    let more = ended xs rest (room - 1) k (omega arith) (omega arith) (rest_plain x xs k (suc k) (omega arith) plain) lf in
-    let left : room - 1 - (k + 1) ≡ room - (suc k + 1) = omega arith in
-    let place : suc (k + 1) ≡ suc k + 1 = omega arith in
-    in_line room x (xs ++ rest) (omega arith) (first_plain x xs (suc k) (omega arith) plain)
-    ∙ ap (prepended x) more
-    ∙ ap (λ (n : ℕ). line (x ∷ take k xs) (lines_of n (drop (k + 1) xs ++ rest))) left
-    ∙ ap (λ (n : ℕ). line (x ∷ take k xs) (lines_of (room - (suc k + 1)) (drop n (x ∷ xs) ++ rest))) place
+ended held rest room at inside within plain lf = ap (lines_of room) (parted held rest at) ∙ ended_alone held (drop (at + 1) held ++ rest) room at inside within plain lf
+
+-- the LF is the last byte of what goes with the line
+pub lf_last : (held : List ℕ) (at : ℕ) → at < length held → Passes (is_byte 10) held at → take (at + 1) held ≡ take at held ++ 10 ∷ []
+lf_last held at inside lf = take_more held at 0 inside ∙ ap (λ (x : ℕ). take at held ++ x ∷ []) (eqb-true (get_or held at 0) 10 lf)
 
 -- ---- a line that isn't ended where the limit is reached
 

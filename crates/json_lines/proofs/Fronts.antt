@@ -7,12 +7,12 @@ use Rattle.memchr.specs.Find.{Nowhere, Passes, IsFirstByte, is_byte}
 use Rattle.json_lines.specs.Cut.{lines_of, first_line, found_over, max_line}
 use Rattle.json_lines.specs.Next.{State, found, is_decided}
 use Rattle.json_lines.specs.Front.{IsLine, IsLong, IsOpen, last_line}
-use Rattle.json_lines.proofs.Cutting.{ended, passed_limit, unended, unended_last, is_long-false, long_line, long_over, long_front}
+use Rattle.json_lines.proofs.Cutting.{ended, ended_alone, lf_last, passed_limit, unended, unended_last, is_long-false, long_line, long_over, long_front}
 
 module _ (s : State) where
   pub line_shown : (at : ℕ) → IsFirstByte (is_byte 10) s.held (Some at) → at ≤ max_line → at < s.room → IsLine s at
   line_shown at first short counts =
-      record { short = short; counts = counts; inside = first.0.high; ahead = λ rest. ended s.held rest s.room at first.0.high counts first.0.before first.1 }
+      record { short = short; counts = counts; inside = first.0.high; lf = lf_last s.held at first.0.high first.1; alone = λ tail. ended_alone s.held tail s.room at first.0.high counts first.0.before first.1 }
 
   pub long_ended : (at : ℕ) → IsFirstByte (is_byte 10) s.held (Some at) → max_line < min at s.room → at < s.room → IsLong s
   long_ended at first long counts =

@@ -1,11 +1,12 @@
 -- What a call of `Lines::next` answers, and the state that it leaves.
-use Rattle.std.specs.Prelude.{◌≡◌, ℕ, ◌<◌, List, [], ◌++◌, Option, None, Some, Result, Ok, Err, Contains, Bool, true, false, not, ◌||◌}
+use Rattle.std.specs.Prelude.{◌≡◌, ◌⊎◌, ℕ, ◌<◌, List, ◌++◌, Result, Ok, Err, Bool, true, false, not, ◌||◌}
+use Rattle.outside.specs.Devices.{Device, IsCalm, Fails}
 use Rattle.json_lines.specs.Cut.{Lines, none, last, line, Found, found_end, found_line, found_long, found_over, lines_of, first_line, is_long, is_blank}
 use Rattle.json_lines.specs.Cut as cut
-use Rattle.json_lines.specs.declared.line_reader.Next.{Next}
-use Rattle.json_lines.specs.declared.line_reader.Next.TheVariants as next
-use Rattle.json_lines.specs.declared.line_reader.LineFault.{LineFault}
-use Rattle.json_lines.specs.declared.line_reader.LineFault.TheVariants as fault
+use Rattle.json_lines.specs.declared.answer.Next.{Next}
+use Rattle.json_lines.specs.declared.answer.Next.TheVariants as next
+use Rattle.json_lines.specs.declared.answer.LineFault.{LineFault}
+use Rattle.json_lines.specs.declared.answer.LineFault.TheVariants as fault
 
 -- the answer that every later call repeats
 pub data Kept : Type 0 where
@@ -48,30 +49,30 @@ Repeats (long n) result = result ≡ Ok (next.TooLong n)
 Repeats over result = result ≡ Err fault.InputTooLong
 Repeats failed result = result ≡ Err fault.ReadFault
 
--- the answer that a call leaves kept
-abbrev pub kept_after : Result Next LineFault → Kept
-kept_after (Ok (next.Line n bytes)) = nothing
-kept_after (Ok (next.TooLong n)) = long n
-kept_after (Ok next.End) = ended
-kept_after (Err fault.InputTooLong) = over
-kept_after (Err fault.ReadFault) = failed
-kept_after (Err fault.NoMemory) = nothing
+-- what is kept after an answer, where `kept` was kept when it was found
+abbrev pub kept_next : Result Next LineFault → Kept → Kept
+kept_next (Ok (next.Line n bytes)) kept = kept
+kept_next (Ok (next.TooLong n)) kept = long n
+kept_next (Ok next.End) kept = ended
+kept_next (Err fault.InputTooLong) kept = over
+kept_next (Err fault.ReadFault) kept = failed
+kept_next (Err fault.NoMemory) kept = kept
 
--- a call at `s` that leaves `t`, where the source had `rest` and has `behind`, and no answer was kept
-abbrev pub Comes : List ℕ → List ℕ → State → State → Result Next LineFault → Type 0
-Comes rest behind s t (Ok (next.Line n bytes)) = (found s rest ≡ found_line n bytes (lines_ahead t behind)) × (t.number ≡ n)
-Comes rest behind s t (Ok (next.TooLong n)) = found s rest ≡ found_long n
-Comes rest behind s t (Ok next.End) = (found s rest ≡ found_end) × (behind ≡ [])
-Comes rest behind s t (Err fault.InputTooLong) = found s rest ≡ found_over
--- every line whose LF was read has been given
-Comes rest behind s t (Err fault.ReadFault) = (found t behind ≡ found s rest) × (Contains t.held 10 → ⊥)
-Comes rest behind s t (Err fault.NoMemory) = found t behind ≡ found s rest
+-- what a call leaves kept: after a last line without LF, that the input has ended
+abbrev pub IsKept : Kept → Kept → Result Next LineFault → Type 0
+IsKept old new (Ok (next.Line n bytes)) = (new ≡ old) ⊎ (new ≡ ended)
+IsKept old new (Ok (next.TooLong n)) = new ≡ long n
+IsKept old new (Ok next.End) = new ≡ ended
+IsKept old new (Err fault.InputTooLong) = new ≡ over
+IsKept old new (Err fault.ReadFault) = new ≡ failed
+IsKept old new (Err fault.NoMemory) = new ≡ old
 
--- the same where the source's bytes may be unknown
-abbrev pub ComesFrom : Option (List ℕ) → Option (List ℕ) → State → State → Result Next LineFault → Type 0
-ComesFrom None new s t result = Unit {0}
-ComesFrom (Some rest) None s t result = ⊥
-ComesFrom (Some rest) (Some behind) s t result = Comes rest behind s t result
+-- which calls count a fault of the source
+abbrev pub Counted : Device → Device → Result Next LineFault → Type 0
+Counted before after (Ok found) = IsCalm before after
+Counted before after (Err fault.ReadFault) = Fails before after
+Counted before after (Err fault.InputTooLong) = IsCalm before after
+Counted before after (Err fault.NoMemory) = IsCalm before after
 
 -- a line takes at least one byte of what still counts
 abbrev pub LeavesLess : State → State → Result Next LineFault → Type 0

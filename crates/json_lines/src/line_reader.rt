@@ -4,16 +4,16 @@
 //! nothing but white space are counted and passed over. Of an input only a given number of bytes
 //! count, and of a line only 1,048,576, so what is held stays small whatever the input is.
 
-ghost use Rattle.std.specs.Prelude.{◌≡◌, ◌+◌, ◌-◌, ◌<◌, ◌≤◌, [], length, drop, IfNone, IfSome, OnSome, IfOk, OnErr, IsErrOf, IsTrue};
+ghost use Rattle.std.specs.Prelude.{◌≡◌, ◌+◌, ◌-◌, ◌<◌, ◌≤◌, List, ℕ, [], Some, length, drop, IfNone, IfSome, OnSome, IfOk, IsTrue};
 ghost use Rattle.std.specs.List.{list_all};
-ghost use Rattle.std.specs.Io.KnownBytes.{Keeps};
 ghost use Rattle.json_lines.specs.Cut.{is_blank_byte, lines_of, max_line};
-ghost use Rattle.json_lines.specs.Next.{nothing, Repeats, kept_after, ComesFrom, LeavesLess, is_decided};
+ghost use Rattle.json_lines.specs.Buffer.{max_read};
+ghost use Rattle.json_lines.specs.Next.{nothing, ended, Repeats, IsKept, kept_next, LeavesLess, is_decided, Counted};
+ghost use Rattle.json_lines.specs.Takings.{Comes, IsBounded, Arrives};
 ghost use Rattle.json_lines.specs.Answers.{kept_of};
-ghost use Rattle.json_lines.specs.Gains.{Gains};
-ghost use Rattle.json_lines.specs.Front.{Shows, PassesBlank, IsOpen, GivesLine, ComesLast};
-ghost use Rattle.outside.specs.Devices.{HasCauseAt};
+ghost use Rattle.json_lines.specs.Front.{Shows, PassesBlank, IsOpen, GivesLine, ComesLast, Closes, Fills};
 
+use crate::answer::{KeptAnswer, LineFault, Next, kept_answer};
 use crate::read_buffer::Buffer;
 use outside::{Source, SourceError};
 use std::alloc::Global;
@@ -23,31 +23,10 @@ use vs_bytes::{Bytes, NoMemory};
 /// The greatest number of bytes of a line, without its LF.
 pub const LINE_LIMIT: usize = 1_048_576;
 
-/// What a call of [`Lines::next`] found.
-#[derive(Debug, Drop)]
-pub enum Next {
-    /// A line that isn't blank, without its LF. Lines are counted from 1, blank ones too.
-    Line { number: u64, bytes: Bytes },
-    /// A line of more than 1,048,576 bytes.
-    TooLong { number: u64 },
-    /// The end of the input.
-    End,
-}
-
-/// Why a call of [`Lines::next`] gave nothing.
-#[derive(Clone, Copy, PartialEq, Eq, Debug, Drop)]
-pub enum LineFault {
-    /// The source failed.
-    ReadFault,
-    /// More bytes came than count.
-    InputTooLong,
-    /// There was no memory for the line.
-    NoMemory,
-}
-
 /// Gives the lines of one input.
 ///
 /// It holds what was read and not yet given: 128 KiB of memory, and up to 2 MiB where lines are long.
+/// It never holds more than the longest line and one read after it.
 #[derive(Drop)]
 pub struct Lines {
     alloc: Global,
@@ -59,18 +38,10 @@ pub struct Lines {
     kept: KeptAnswer,
 }
 
-// The answer that every later call repeats.
-#[derive(Clone, Copy, Debug, Drop)]
-enum KeptAnswer {
-    Nothing,
-    End,
-    TooLong(u64),
-    InputTooLong,
-    ReadFault,
-}
-
 impl Model for Lines {
     ghost use Rattle.std.specs.Prelude.{◌+◌, ◌<◌, ◌≤◌, ◌^◌, length};
+    ghost use Rattle.json_lines.specs.Cut.{max_line};
+    ghost use Rattle.json_lines.specs.Buffer.{max_read};
     ghost use Rattle.json_lines.specs.Next.{State};
     ghost use Rattle.json_lines.specs.Answers.{kept_of};
 
@@ -78,7 +49,7 @@ impl Model for Lines {
 
     ghost view = { λ l. record { number = l.number; room = l.room; held = l.buffer.held; kept = kept_of l.kept } };
 
-    ghost invariant = { λ l. (l.number + l.room < 2 ^ 64) × (length l.buffer.held ≤ l.room + 1) };
+    ghost invariant = { λ l. (l.number + l.room < 2 ^ 64) × (length l.buffer.held ≤ l.room + 1) × (length l.buffer.held ≤ max_line + max_read) };
 }
 
 impl Lines {
@@ -101,7 +72,7 @@ impl Lines {
     ///
     /// | Answer | What it says | What a later call answers |
     /// |---|---|---|
-    /// | `Line` | the line, without its LF, and its number | what comes behind it |
+    /// | `Line` | the line, without its LF, and its number | what comes after it |
     /// | `TooLong` | the line of this number has more than 1,048,576 bytes | the same |
     /// | `End` | the input ended, and its last line was given or is blank | the same |
     /// | `ReadFault` | the source failed; every line whose LF was read has been given | the same |
@@ -109,23 +80,24 @@ impl Lines {
     /// | `NoMemory` | nothing was given, and nothing that was read is lost | tries again |
     ///
     /// A line that is both too long and cut by the limit is `TooLong`. An answer that is given again
-    /// is given without a read. All calls are to be made with one source.
+    /// is given without a read, and so is `End` after a last line without LF: the source isn't read
+    /// again once it has ended. All calls are to be made with one source.
     pub fn next<S: Source>(&mut self, source: &mut S) -> Result<Next, LineFault>
         ensures again { Repeats self.old.kept result }
         ensures untouched { (self.old.kept ≡ nothing → ⊥) → (source.new ≡ source.old) × (self.new ≡ self.old) }
-        ensures keeps { self.new.kept ≡ kept_after result }
-        ensures comes { self.old.kept ≡ nothing → ComesFrom (S.left source.old) (S.left source.new) self.old self.new result }
+        ensures keeps { IsKept self.old.kept self.new.kept result }
+        ensures comes { self.old.kept ≡ nothing → (rest : List ℕ) → (S.seen source.old).bytes ≡ Some rest → Comes self.old rest self.new (S.seen source.new).bytes result }
+        ensures bounded { (rest : List ℕ) → (S.seen source.old).bytes ≡ Some rest → IsBounded self.old rest (S.seen source.new).bytes }
+        ensures holds { length self.new.held ≤ max_line + max_read }
         ensures less { LeavesLess self.old self.new result }
         ensures decided { self.old.kept ≡ nothing → IsTrue (is_decided (lines_of self.old.room self.old.held)) → source.new ≡ source.old }
-        ensures cause { HasCauseAt (S.faults source.old) (S.faults source.new) ((self.old.kept ≡ nothing) × IsErrOf result LineFault.ReadFault) }
-        ensures calm { (IsErrOf result LineFault.ReadFault → ⊥) → S.faults source.new ≡ S.faults source.old }
-        ensures steady { IfOk result (λ next. S.faults source.new ≡ S.faults source.old) }
+        ensures counts { self.old.kept ≡ nothing → Counted (S.seen source.old) (S.seen source.new) result }
     {
         if let Some(answer) = self.repeated() {
             return answer;
         }
         let answer = self.find_next(source);
-        self.kept = kept_answer(&answer);
+        self.keep(&answer);
         answer
     }
 
@@ -134,7 +106,9 @@ impl Lines {
         ensures none { IfNone result (self.now.kept ≡ nothing) }
         ensures some { OnSome result (self.now.kept ≡ nothing → ⊥) }
         ensures again { IfSome result (Repeats self.now.kept) }
-        ensures keeps { IfSome result (λ answer. self.now.kept ≡ kept_after answer) }
+        ensures keeps { IfSome result (IsKept self.now.kept self.now.kept) }
+        ensures within { length self.now.held ≤ self.now.room + 1 }
+        ensures holds { length self.now.held ≤ max_line + max_read }
     {
         match self.kept {
             KeptAnswer::Nothing => None,
@@ -145,15 +119,28 @@ impl Lines {
         }
     }
 
+    // Keeps an answer that later calls repeat.
+    fn keep(&mut self, answer: &Result<Next, LineFault>)
+        ensures kept { self.new ≡ record { number = self.old.number; room = self.old.room; held = self.old.held; kept = kept_next answer.now self.old.kept } }
+        ensures holds { length self.new.held ≤ max_line + max_read }
+    {
+        self.kept = kept_answer(answer, self.kept);
+    }
+
+    // Keeps that the input has ended.
+    fn close(&mut self)
+        ensures { self.new ≡ record { number = self.old.number; room = self.old.room; held = self.old.held; kept = ended } }
+    {
+        self.kept = KeptAnswer::End;
+    }
+
     // The next answer, where none is kept.
     fn find_next<S: Source>(&mut self, source: &mut S) -> Result<Next, LineFault>
-        ensures kept { self.new.kept ≡ self.old.kept }
-        ensures comes { ComesFrom (S.left source.old) (S.left source.new) self.old self.new result }
+        ensures closes { Closes self.old.kept self.new.kept result }
+        ensures arrives { (rest : List ℕ) → (S.seen source.old).bytes ≡ Some rest → Arrives self.old rest self.new (S.seen source.new).bytes result }
         ensures less { LeavesLess self.old self.new result }
         ensures decided { IsTrue (is_decided (lines_of self.old.room self.old.held)) → source.new ≡ source.old }
-        ensures cause { HasCauseAt (S.faults source.old) (S.faults source.new) (IsErrOf result LineFault.ReadFault) }
-        ensures calm { (IsErrOf result LineFault.ReadFault → ⊥) → S.faults source.new ≡ S.faults source.old }
-        ensures steady { IfOk result (λ found. S.faults source.new ≡ S.faults source.old) }
+        ensures counts { Counted (S.seen source.old) (S.seen source.new) result }
     {
         loop {
             match self.pass_blank() {
@@ -174,7 +161,7 @@ impl Lines {
         }
     }
 
-    // Passes over the blank lines that are held, up to what comes behind them.
+    // Passes over the blank lines that are held, up to what comes after them.
     fn pass_blank(&mut self) -> Front
         ensures passes { PassesBlank self.old self.new result }
     {
@@ -196,6 +183,7 @@ impl Lines {
     // What the held bytes begin with.
     fn front(&mut self) -> Front
         ensures same { self.new ≡ self.old }
+        ensures within { length self.old.held ≤ self.old.room + 1 }
         ensures shows { Shows self.old result }
     {
         let room = self.room;
@@ -250,16 +238,7 @@ impl Lines {
     fn fill<S: Source>(&mut self, source: &mut S) -> Result<usize, LineFault>
         requires within { length self.old.held ≤ self.old.room }
         requires short { length self.old.held ≤ max_line }
-        ensures number { self.new.number ≡ self.old.number }
-        ensures room { self.new.room ≡ self.old.room }
-        ensures kept { self.new.kept ≡ self.old.kept }
-        ensures gains { IfOk result (Gains (S.left source.old) (S.left source.new) self.old.held self.new.held) }
-        ensures held { OnErr result (self.new.held ≡ self.old.held) }
-        ensures keeps { OnErr result (Keeps (S.left source.old) (S.left source.new)) }
-        ensures limit { IsErrOf result LineFault.InputTooLong → ⊥ }
-        ensures cause { HasCauseAt (S.faults source.old) (S.faults source.new) (IsErrOf result LineFault.ReadFault) }
-        ensures calm { (IsErrOf result LineFault.ReadFault → ⊥) → S.faults source.new ≡ S.faults source.old }
-        ensures steady { IfOk result (λ found. S.faults source.new ≡ S.faults source.old) }
+        ensures fills { Fills (S.seen source.old) (S.seen source.new) self.old self.new result }
     {
         let most = (self.room - self.buffer.len() as u64).saturating_add(1);
         self.buffer.make_room()?;
@@ -272,14 +251,19 @@ impl Lines {
     // The end of the input: the held bytes are its last line, which lacks an LF.
     fn last(&mut self) -> Result<Next, LineFault>
         requires { IsOpen self.old }
-        ensures kept { self.new.kept ≡ self.old.kept }
-        ensures comes { ComesLast self.old self.new result }
+        ensures { ComesLast self.old self.new result }
     {
         let len = self.buffer.len();
         if is_blank(self.buffer.front(len)) {
             return Ok(Next::End);
         }
-        self.give(len, len)
+        match self.give(len, len) {
+            Ok(line) => {
+                self.close();
+                Ok(line)
+            }
+            Err(fault) => Err(fault),
+        }
     }
 }
 
@@ -296,16 +280,6 @@ enum Front {
     Open,
 }
 
-impl From<NoMemory> for LineFault {
-    ghost use Rattle.json_lines.specs.declared.line_reader.LineFault.TheVariants.{NoMemory as OutOfMemory};
-
-    ghost from_gives = { λ _ e. e ≡ OutOfMemory };
-
-    fn from(_error: NoMemory) -> LineFault {
-        LineFault::NoMemory
-    }
-}
-
 // Whether all bytes are white space. It stops at the first that isn't.
 fn is_blank(line: &[u8]) -> bool
     ensures { result ≡ list_all is_blank_byte line.now }
@@ -316,18 +290,4 @@ fn is_blank(line: &[u8]) -> bool
         }
     }
     true
-}
-
-// What a call leaves kept.
-fn kept_answer(answer: &Result<Next, LineFault>) -> KeptAnswer
-    ensures { kept_of result ≡ kept_after answer.now }
-{
-    match answer {
-        Ok(Next::Line { .. }) => KeptAnswer::Nothing,
-        Ok(Next::TooLong { number }) => KeptAnswer::TooLong(*number),
-        Ok(Next::End) => KeptAnswer::End,
-        Err(LineFault::InputTooLong) => KeptAnswer::InputTooLong,
-        Err(LineFault::ReadFault) => KeptAnswer::ReadFault,
-        Err(LineFault::NoMemory) => KeptAnswer::Nothing,
-    }
 }

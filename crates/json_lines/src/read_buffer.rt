@@ -4,12 +4,11 @@
 //! index on; the bytes themselves are moved only when a read needs the places before them, and the
 //! vector grows only for a line that doesn't fit.
 
-ghost use Rattle.std.specs.Prelude.{◌≡◌, ◌+◌, ◌<◌, ◌≤◌, ◌^◌, [], length, take, drop, IfOk, OnOk, OnErr, IsErrOf};
-ghost use Rattle.std.specs.Io.KnownBytes.{Keeps};
+ghost use Rattle.std.specs.Prelude.{◌≡◌, ◌+◌, ◌<◌, ◌≤◌, ◌^◌, [], length, take, drop, IfOk, OnOk};
 ghost use Rattle.memchr.specs.Find.{IsFirstByte, is_byte};
-ghost use Rattle.outside.specs.Devices.{HasCauseAt};
 ghost use Rattle.json_lines.specs.Cut.{max_line};
-ghost use Rattle.json_lines.specs.Gains.{Gains};
+ghost use Rattle.json_lines.specs.Buffer.{max_read};
+ghost use Rattle.json_lines.specs.Gains.{ReadsMore, ReadsAt};
 
 use memchr::memchr;
 use outside::{Source, SourceError};
@@ -17,10 +16,10 @@ use std::alloc::Global;
 use std::marker::Model;
 use vs_bytes::NoMemory;
 
-// A read is offered at least this many bytes.
+// A read takes at most this many bytes.
 const PIECE: usize = 65_536;
 
-// Room for a piece behind as many held bytes.
+// Room for a piece after as many held bytes.
 const FIRST_SIZE: usize = 131_072;
 
 /// The held bytes, between `start` and `end`, with no LF among them below `searched`.
@@ -101,7 +100,7 @@ impl Buffer {
         self.searched = self.searched.max(self.start);
     }
 
-    // How many places stand free behind the held bytes.
+    // How many places stand free after the held bytes.
     fn free(&self) -> usize
         ensures { result ≡ self.now.free }
     {
@@ -125,18 +124,18 @@ impl Buffer {
     fn grow(&mut self) -> Result<(), NoMemory>
         requires { self.old.passed + length self.old.held + self.old.free < 2 ^ 62 }
         ensures held { self.new.held ≡ self.old.held }
-        ensures free { OnOk result (65536 ≤ self.new.free) }
+        ensures free { OnOk result (max_read ≤ self.new.free) }
     {
         let size = 2 * self.bytes.len();
         self.bytes.resize(size, 0)?;
         Ok(())
     }
 
-    /// Makes room for a piece behind the held bytes.
+    /// Makes room for a piece after the held bytes.
     pub fn make_room(&mut self) -> Result<(), NoMemory>
         requires { length self.old.held ≤ max_line }
         ensures held { self.new.held ≡ self.old.held }
-        ensures free { OnOk result (65536 ≤ self.new.free) }
+        ensures free { OnOk result (max_read ≤ self.new.free) }
     {
         if self.free() < PIECE {
             self.move_to_front();
@@ -147,19 +146,15 @@ impl Buffer {
         Ok(())
     }
 
-    /// Reads at most `most` bytes behind those that are held.
+    /// Reads at most `most` bytes, and at most a piece, after those that are held.
     pub fn read<S: Source>(&mut self, source: &mut S, most: usize) -> Result<usize, SourceError>
         requires some { 0 < most }
-        requires free { 0 < self.old.free }
+        requires free { max_read ≤ self.old.free }
         ensures most { IfOk result (λ count. count ≤ most) }
-        ensures gains { IfOk result (Gains (S.left source.old) (S.left source.new) self.old.held self.new.held) }
-        ensures held { OnErr result (self.new.held ≡ self.old.held) }
-        ensures keeps { OnErr result (Keeps (S.left source.old) (S.left source.new)) }
-        ensures cause { HasCauseAt (S.faults source.old) (S.faults source.new) (IsErrOf result SourceError.Failed) }
-        ensures calm { (IsErrOf result SourceError.Failed → ⊥) → S.faults source.new ≡ S.faults source.old }
-        ensures steady { IfOk result (λ count. S.faults source.new ≡ S.faults source.old) }
+        ensures piece { IfOk result (λ count. count ≤ max_read) }
+        ensures reads { ReadsMore (S.seen source.old) (S.seen source.new) self.old.held self.new.held result }
     {
-        let size = most.min(self.free());
+        let size = most.min(PIECE);
         match read_at(source, &mut self.bytes, self.end, size) {
             Ok(count) => {
                 self.end += count;
@@ -180,12 +175,8 @@ fn read_at<S: Source>(
     requires some { 0 < size }
     requires within { from + size ≤ length bytes.old }
     ensures count { IfOk result (λ count. count ≤ size) }
-    ensures gains { IfOk result (λ count. Gains (S.left source.old) (S.left source.new) (take from bytes.old) (take (from + count) bytes.new) count) }
     ensures before { take from bytes.new ≡ take from bytes.old }
-    ensures keeps { OnErr result (Keeps (S.left source.old) (S.left source.new)) }
-    ensures cause { HasCauseAt (S.faults source.old) (S.faults source.new) (IsErrOf result SourceError.Failed) }
-    ensures calm { (IsErrOf result SourceError.Failed → ⊥) → S.faults source.new ≡ S.faults source.old }
-    ensures steady { IfOk result (λ count. S.faults source.new ≡ S.faults source.old) }
+    ensures reads { ReadsAt from (S.seen source.old) (S.seen source.new) bytes.old bytes.new result }
 {
     match source.read(&mut bytes[from..from + size]) {
         Ok(count) => Ok(count),

@@ -1,9 +1,11 @@
-use Rattle.std.proofs.Common.{◌≡◌, ◌∙◌, ◌+◌, ◌≤◌, true, take, length, sym, ap, arith}
+use Rattle.std.proofs.Common.{◌≡◌, ◌∙◌, ◌+◌, ◌≤◌, true, take, length, sym, ap, subst, arith}
 use Rattle.std.specs.List.{list_all}
 use Rattle.std.proofs.lemmas.List.{length-drop, length-take-le}
 use Rattle.json_lines.specs.Cut.{is_blank, is_blank_byte, lines_of, max_line}
-use Rattle.json_lines.specs.Next.{State, found, is_decided}
-use Rattle.json_lines.proofs.Steps.{behind, passed_ahead, passed_decided, short_blank}
+use Rattle.json_lines.specs.Next.{State, is_decided}
+use Rattle.json_lines.specs.Takings.{Passed}
+use Rattle.json_lines.proofs.Steps.{behind, passed_line, passed_decided, short_blank}
+use Rattle.json_lines.proofs.Taking.{passed_then}
 use Rattle.json_lines.proofs.line_reader.Lines.pass_blank.Goals as goal
 
 pub loop-at-preserved : goal.loop-at-preserved
@@ -20,7 +22,7 @@ loop-at-preserved c =
     let more = c.loop-at.invariant in
     record {
       kept = ap (λ (u : State). u.kept) new ∙ more.kept;
-      ahead = λ rest. ap (λ (u : State). found u rest) new ∙ passed_ahead s at is blank rest ∙ more.ahead rest;
+      passed = passed_then _ s _ _ _ _ more.passed (subst (λ (u : State). Passed s s.held u u.held) (sym new) (passed_line s at is blank));
       decided = ap (λ (u : State). is_decided (lines_of u.room u.held)) new ∙ passed_decided s at is blank ∙ more.decided;
       room = omega (arith, more.room, ap (λ (u : State). u.room) new);
       gap = omega (arith, more.gap, is.counts, is.inside, ap (λ (u : State). u.room) new, ap (λ (u : State). length u.held) new, length-drop (at + 1) s.held);

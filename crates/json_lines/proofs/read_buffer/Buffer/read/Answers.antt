@@ -31,18 +31,19 @@ invariant_of-self-in-Err g c =
       plain = plain_same (is_byte 10) b.bytes.items _ b.start b.searched b.end c.self.invariant.searched front c.self.invariant.plain;
     }
 
-pub returns-in-Err-clause-held : goal.returns-in-Err-clause-held
-returns-in-Err-clause-held g c =
+pub returns-in-Err-clause-reads : goal.returns-in-Err-clause-reads
+returns-in-Err-clause-reads g c =
     let b = c.self.inside in
     let is = with_items_is b.bytes c.read_at.new.bytes (omega arith) in
     let front = ap (take b.end) is ∙ c.in-Err.ensures.before ∙ ap (take b.end) c.deref_mut.ensures.value in
-    range_same b.bytes.items _ b.start b.end (omega arith) front ∙ ap (λ (s : Buffered). s.held) c.self.view_is
+    let held = range_same b.bytes.items _ b.start b.end (omega arith) front ∙ ap (λ (s : Buffered). s.held) c.self.view_is in
+    (held, c.in-Err.ensures.reads)
 
-pub returns-in-Ok-clause-gains : goal.returns-in-Ok-clause-gains
-returns-in-Ok-clause-gains g c =
+pub returns-in-Ok-clause-reads : goal.returns-in-Ok-clause-reads
+returns-in-Ok-clause-reads g c =
     let b = c.self.inside in
     let is = with_items_is b.bytes c.read_at.new.bytes (omega arith) in
-    let gains = c.in-Ok.ensures.gains in
+    let gains = c.in-Ok.ensures.reads in
     let grown = ap (take (b.end + c.in-Ok.count)) is ∙ gains.grown ∙ ap (λ (s : List ℕ). take b.end s ++ gains.bytes) c.deref_mut.ensures.value in
     record {
       bytes = gains.bytes;
@@ -50,4 +51,5 @@ returns-in-Ok-clause-gains g c =
       size = gains.size;
       taken = gains.taken;
       end = gains.end;
+      calm = gains.calm;
     }
