@@ -15,7 +15,7 @@ pub passes_plain : (x : ℕ) → is_plain x ≡ true → IsPiece (byte x)
 unfolding is_plain
 passes_plain x h = grind (arith, nat_tests)
 
-hex_passes : (x : ℕ) → IsHexDigit x → is_hex x ≡ true
+pub hex_passes : (x : ℕ) → IsHexDigit x → is_hex x ≡ true
 hex_passes x h = grind (arith, nat_tests)
 
 passes_hex : (x : ℕ) → is_hex x ≡ true → IsHexDigit x

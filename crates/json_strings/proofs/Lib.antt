@@ -5,4 +5,5 @@ pub mod Rests
 pub mod Steps
 pub mod Strings
 pub mod Turns
+pub mod Utf8Texts
 pub mod Within

@@ -12,7 +12,7 @@
 //! | `content` | what was read of a string that has escapes |
 //! | `escapes` | escapes, from behind their backslash on |
 //! | `runs` | the bytes in front that stand for themselves |
-//! | `laws` | what is written is read, and what is read is written |
+//! | `laws` | what is written is read, and what is read is written; strings in UTF-8 bytes mean UTF-8 |
 #![tactic(auto)]
 
 mod content;
@@ -21,5 +21,8 @@ mod laws;
 mod reader;
 mod runs;
 
-pub use laws::{strings_are_complete, strings_are_one, strings_are_sound};
+pub use laws::{
+    strings_are_complete, strings_are_one, strings_are_sound, strings_in_utf8_mean_utf8,
+    utf8_is_judged_once,
+};
 pub use reader::{Quoted, QuotedFault, StringFault, read_quoted, read_string};
