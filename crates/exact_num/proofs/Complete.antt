@@ -59,7 +59,7 @@ no_sign : (whole rest : List ℕ) → IsWhole whole → past 45 (whole ++ rest) 
 no_sign [] rest h = elim h [ ]
 no_sign (x ∷ xs) rest h = let digits = whole_digits (x ∷ xs) h in rw (digit_other x 45 digits.0 (omega arith)) refl
 
-complete : (b : Bool) (whole fraction : List ℕ) (e : Exponent) → IsWhole whole → AllByRecursion IsDigit fraction → IsExponent e → parsed (sign_text b ++ (whole ++ (fraction_text fraction ++ exponent_text e))) ≡ Some (record { negative = b; whole = whole; fraction = fraction; power = e })
+pub complete : (b : Bool) (whole fraction : List ℕ) (e : Exponent) → IsWhole whole → AllByRecursion IsDigit fraction → IsExponent e → parsed (sign_text b ++ (whole ++ (fraction_text fraction ++ exponent_text e))) ≡ Some (record { negative = b; whole = whole; fraction = fraction; power = e })
 unfolding parsed
 complete true whole fraction e is_whole all h = complete_unsigned true whole fraction e is_whole all h
 complete false whole fraction e is_whole all h =

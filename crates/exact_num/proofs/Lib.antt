@@ -11,7 +11,8 @@ pub mod Shortening
 pub mod Printed
 pub mod Readings
 pub mod Runs
-pub mod ShortTexts
+pub mod LeadingNumbers
+pub mod ShortDigits
 pub mod Signs
 pub mod Sound
 pub mod Uniqueness

@@ -5,18 +5,18 @@ use Rattle.exact_num.specs.Parsing.{is_numeric}
 use Rattle.exact_num.specs.Spelling.{Sign, unmarked, plus, minus, Exponent, no_exponent, exponent, Written, mark_text, exponent_text, fraction_text, sign_text, IsDigit, AreDigits, IsWhole, IsExponent, IsSpelling, BeginsNumber}
 use Rattle.exact_num.proofs.Runs.{is_digit_true, whole_digits}
 
-abbrev IsNumeric : List ℕ → Type 0
+abbrev pub IsNumeric : List ℕ → Type 0
 IsNumeric xs = AllByRecursion (λ x. is_numeric x ≡ true) xs
 
-joined : (xs ys : List ℕ) → IsNumeric xs → IsNumeric ys → IsNumeric (xs ++ ys)
+pub joined : (xs ys : List ℕ) → IsNumeric xs → IsNumeric ys → IsNumeric (xs ++ ys)
 joined [] ys h g = g
 joined (x ∷ xs) ys h g = (h.0, joined xs ys h.1 g)
 
-digits_numeric : (ds : List ℕ) → AllByRecursion IsDigit ds → IsNumeric ds
+pub digits_numeric : (ds : List ℕ) → AllByRecursion IsDigit ds → IsNumeric ds
 digits_numeric [] h = tt
 digits_numeric (d ∷ ds) h = (rw (is_digit_true d h.0) refl, digits_numeric ds h.1)
 
-fraction_numeric : (ds : List ℕ) → AllByRecursion IsDigit ds → IsNumeric (fraction_text ds)
+pub fraction_numeric : (ds : List ℕ) → AllByRecursion IsDigit ds → IsNumeric (fraction_text ds)
 fraction_numeric [] h = tt
 fraction_numeric (d ∷ ds) h = (refl, digits_numeric (d ∷ ds) h)
 

@@ -3,6 +3,7 @@ pub mod NumberOf
 pub mod Spelling
 pub mod Parsing
 pub mod Reading
+pub mod Leading
 pub mod Text
 pub mod Wide
 pub mod Fitting

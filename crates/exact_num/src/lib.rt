@@ -9,7 +9,7 @@
 //! | `number` | `Number`, in least scale, so that each value has one |
 //! | `fault` | `NumFault`: why a text has no number |
 //! | `reading` | `read_number`: any JSON number text |
-//! | `short_reading` | whole numbers of at most 18 digits, in one loop |
+//! | `leading_reading` | `read_leading`: the number at the front of a text |
 //! | `exponent_reading`, `exponent` | the exponent, cut where it is out of reach |
 //! | `digit_runs` | runs of digits and their integers |
 //! | `significand` | digits of any count, without the zeros at their end |
@@ -27,13 +27,13 @@ mod exponent_reading;
 mod fault;
 mod fitting;
 mod laws;
+mod leading_reading;
 mod number;
 mod ordering;
 mod placing;
 mod power;
 mod printing;
 mod reading;
-mod short_reading;
 mod significand;
 
 pub use fault::NumFault;
@@ -42,6 +42,7 @@ pub use laws::{
     one_number, parsing_is_complete, parsing_is_sound, printed_reads_back, reading_is_exact,
     spelled_once,
 };
+pub use leading_reading::read_leading;
 pub use number::Number;
 pub use ordering::cmp;
 pub use printing::{print, text_len};

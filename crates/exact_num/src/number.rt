@@ -47,16 +47,6 @@ impl Number {
         }
     }
 
-    /// The integer `size`, or its negative.
-    pub(crate) fn of_integer(minus: bool, size: u64) -> Number
-        ensures { decimal_of result ≡ record { unscaled = signed minus size; scale = 0 } }
-    {
-        Number {
-            unscaled: with_sign(minus, u128::from(size)),
-            scale: 0,
-        }
-    }
-
     /// The integer that the number has without its point.
     pub fn unscaled(self) -> i128
         ensures { result ≡ (decimal_of self).unscaled }

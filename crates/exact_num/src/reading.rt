@@ -14,7 +14,6 @@ use crate::exponent_reading::exponent;
 use crate::fault::NumFault;
 use crate::number::Number;
 use crate::placing::placed;
-use crate::short_reading::short_number;
 use crate::significand::Significand;
 
 /// The number that `text` spells, whatever its length and its exponent: nothing is rounded.
@@ -26,17 +25,7 @@ pub fn read_number(text: &[u8]) -> Result<Number, NumFault>
     ensures err { IfErr result (IsFault text.now) }
     ensures exact { Gives decimal_of result (read_of text.now) }
 {
-    read_any(text)
-}
-
-// The answer as a function of the text.
-fn read_any(text: &[u8]) -> Result<Number, NumFault>
-    ensures { Gives decimal_of result (read_of text.now) }
-{
-    match short_number(text) {
-        Some(number) => Ok(number),
-        None => read_signed(text),
-    }
+    read_signed(text)
 }
 
 #[tactic(auto, unfolding(crate::specs::Parsing::parsed))]
