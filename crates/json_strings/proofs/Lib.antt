@@ -1,4 +1,5 @@
 pub mod Blocks
+pub mod ClearRuns
 pub mod Digits
 pub mod Holds
 pub mod Rests

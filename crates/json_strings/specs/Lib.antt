@@ -1,3 +1,4 @@
+pub mod AsciiRuns
 pub mod Content
 pub mod Meaning
 pub mod Pieces

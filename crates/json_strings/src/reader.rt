@@ -1,6 +1,7 @@
 //! Quoted strings (RFC 8259, section 7).
 
-ghost use Rattle.std.specs.Prelude.{◌≡◌, ◌<◌, ◌≤◌, ℕ, List, Bool, true, false, length, IfOk, IsErrOf};
+ghost use Rattle.std.specs.Prelude.{◌≡◌, ◌<◌, ◌≤◌, ℕ, List, Bool, true, false, Some, length, IfOk, IsErrOf};
+ghost use Rattle.std.specs.Str.{IsUtf8};
 ghost use Rattle.json_strings.specs.Content.{plain_state, quote_from, if_utf8, only_utf8};
 ghost use Rattle.json_strings.specs.Places.{IsStringAt};
 ghost use Rattle.json_strings.specs.Reading.{quoted_at};
@@ -8,6 +9,7 @@ ghost use Rattle.json_strings.specs.Shown.{quote};
 ghost use Rattle.json_strings.specs.Told.{Reads};
 ghost use Rattle.json_strings.specs.declared.reader.QuotedFault.TheVariants.{NoMemory as OutOfMemory};
 
+use crate::ascii_runs::ascii_len;
 use crate::content::Content;
 use crate::runs::plain_len;
 use std::alloc::Global;
@@ -85,11 +87,21 @@ fn read_escaped<'a>(alloc: Global, run: &[u8], text: &'a [u8]) -> Result<Quoted<
     Err(QuotedFault::NotString)
 }
 
-/// Reads the rest of a string, from behind its opening quote on.
-///
-/// A string whose text isn't UTF-8 is no string. One without escapes is copied once. Its fault is
-/// [`QuotedFault::NotString`] just where no string stands there.
-pub fn read_quoted<'a>(alloc: Global, text: &'a [u8]) -> Result<Quoted<'a>, QuotedFault>
+// A string of ASCII bytes that stand for themselves, behind which `rest` stands.
+fn read_ascii<'a>(alloc: Global, run: &[u8], rest: &'a [u8]) -> Result<Quoted<'a>, QuotedFault>
+    requires { IsUtf8 run.now }
+    ensures { Reads quote result (Some (run.now, false, rest.now)) }
+{
+    Ok(Quoted {
+        text: Text::from_utf8_slice(alloc, run)?,
+        lone: false,
+        rest,
+    })
+}
+
+// Any string.
+#[inline(never)]
+fn read_any<'a>(alloc: Global, text: &'a [u8]) -> Result<Quoted<'a>, QuotedFault>
     ensures told { Reads quote result (quoted_at text.now) }
     ensures shorter { IfOk result (λ quoted. length quoted.rest.now < length text.now) }
 {
@@ -102,6 +114,24 @@ pub fn read_quoted<'a>(alloc: Global, text: &'a [u8]) -> Result<Quoted<'a>, Quot
         b'\\' => read_escaped(alloc, run, behind),
         _ => Err(QuotedFault::NotString),
     }
+}
+
+/// Reads the rest of a string, from behind its opening quote on.
+///
+/// A string whose text isn't UTF-8 is no string. One without escapes is copied once. Its fault is
+/// [`QuotedFault::NotString`] just where no string stands there.
+#[inline(always)]
+pub fn read_quoted<'a>(alloc: Global, text: &'a [u8]) -> Result<Quoted<'a>, QuotedFault>
+    ensures told { Reads quote result (quoted_at text.now) }
+    ensures shorter { IfOk result (λ quoted. length quoted.rest.now < length text.now) }
+{
+    let (run, behind) = text.split_at(ascii_len(text));
+    if let Some((first, rest)) = behind.split_first() {
+        if *first == b'"' {
+            return read_ascii(alloc, run, rest);
+        }
+    }
+    read_any(alloc, text)
 }
 
 /// Reads the quoted string that begins with its quote at `at`, and gives its text and the place behind

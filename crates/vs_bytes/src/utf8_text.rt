@@ -53,6 +53,14 @@ impl Text {
         Ok(Text { held })
     }
 
+    /// A copy of bytes that are UTF-8.
+    pub fn from_utf8_slice(alloc: Global, bytes: &[u8]) -> Result<Text, NoMemory>
+        requires { IsUtf8 bytes.now }
+        ensures { IfOk result (λ t. t ≡ bytes.now) }
+    {
+        Text::from_str(alloc, unsafe { std::str::from_utf8_unchecked(bytes) })
+    }
+
     /// The text of a string, which it takes over.
     pub fn from_string(text: String) -> Text
         ensures { result ≡ string_bytes text }

@@ -4,7 +4,7 @@ use Rattle.json_strings.specs.Shown.{quote}
 use Rattle.json_strings.specs.Told.{Reads}
 use Rattle.json_strings.proofs.Rests.{told_shorter}
 use Rattle.json_strings.proofs.Turns.{begins, quote_turn, nothing_turn, stop_turn}
-use Rattle.json_strings.proofs.reader.read_quoted.Goals as goal
+use Rattle.json_strings.proofs.reader.read_any.Goals as goal
 
 pub returns-in_default-clause-told : goal.returns-in_default-clause-told
 returns-in_default-clause-told c =
