@@ -12,6 +12,7 @@ use std::alloc::Global;
 use vs_bytes::Text;
 
 /// Reads the rest of a string from its opening quote on, and gives the bytes behind its closing one.
+#[inline(always)]
 pub(crate) fn read_string<'a>(
     alloc: Global,
     text: &'a [u8],

@@ -31,6 +31,7 @@ const INNER_ROOM: usize = 2;
 /// Reads a value from the front of `text`, and gives the bytes behind it. At most `depth` arrays and
 /// objects may be open at once. The value's flaws are noted, and null stands in for what has no value.
 #[cycle(parser)]
+#[inline(always)]
 pub(crate) fn read_value<'a>(
     alloc: Global,
     text: &'a [u8],
@@ -77,6 +78,7 @@ fn read_text<'a>(
 }
 
 #[cycle(parser)]
+#[inline(never)]
 #[tactic(auto, unfolding(json_grammar::specs::Reading::nested))]
 fn read_array<'a>(
     alloc: Global,
@@ -131,6 +133,7 @@ fn read_elements<'a>(
 }
 
 #[cycle(parser)]
+#[inline(never)]
 #[tactic(auto, unfolding(json_grammar::specs::Reading::nested))]
 fn read_object<'a>(
     alloc: Global,
@@ -204,6 +207,7 @@ fn read_entries<'a>(
 
 // A name, a colon and a value.
 #[cycle(parser)]
+#[inline(always)]
 fn read_entry<'a>(
     alloc: Global,
     text: &'a [u8],
