@@ -1,12 +1,16 @@
 CRATE ?= exact_json
 PROGRAM = crates/vstore/out/vstore
+PREFIX ?= /usr/local
 
-.PHONY: demo build test check fmt bench
+.PHONY: demo build install test check fmt bench
 
-demo: build         ## runs the main job on a small real file, and shows what it prints
+demo:               ## runs the main job on a small real file: by the proved program, or unproved where none is built
 	@examples/demo.sh $(PROGRAM)
 build:              ## proves and builds the program
 	@cd crates/vstore && rt run -- scan '$$' < /dev/null > /dev/null
+install: build      ## puts the program and its manual page in place: make install PREFIX=/usr/local
+	install -D -m 755 $(PROGRAM) $(DESTDIR)$(PREFIX)/bin/vstore
+	install -D -m 644 man/vstore.1 $(DESTDIR)$(PREFIX)/share/man/man1/vstore.1
 test:               ## the merge gate: every proof, edit, test and program
 	@rt ci
 check:              ## one crate while you edit: make check CRATE=json_tree
