@@ -1,0 +1,5 @@
+pub mod Documents
+pub mod Input
+pub mod Call
+pub mod Given
+pub mod Taking
