@@ -8,9 +8,9 @@ use Rattle.path_grammar.specs.Grammar.{IsPath}
 use Rattle.path_grammar.proofs.Texts.{paths_are_one}
 use Rattle.filter_grammar.specs.Grammar.{IsFilter}
 use Rattle.filter_grammar.proofs.Texts.{filter_one}
-use Rattle.variant_store.specs.Words.{GiveScan, AsksFilter, ArePaths, is_repeated, IsAsked, LacksFilter, HasUnsuited, LacksPath, IsWrong, AskScan, AskWrongly}
-use Rattle.variant_store.specs.declared.refusal.BadWords.{BadWords}
-use Rattle.variant_store.specs.declared.refusal.BadWords.TheVariants.{Usage, BadFilter, BadOrder, BadPath, RepeatedPath}
+use Rattle.variant_store.specs.Words.{GiveScan, AsksFilter, ArePaths, is_repeated, IsAsked, LacksFilter, HasUnsuited, LacksPath, HasRepeated, AskScan, AskWrongly}
+use Rattle.variant_store.specs.declared.words.BadWords.{BadWords}
+use Rattle.variant_store.specs.declared.words.BadWords.TheVariants.{Usage, BadFilter, BadOrder, BadPath, RepeatedPath}
 
 one_given : (words : List (List ℕ)) (g h : Given) → GiveScan words g → GiveScan words h → g ≡ h
 one_given words g h a b =
@@ -63,26 +63,22 @@ same_paths (t ∷ texts) (p ∷ ps) (q ∷ qs) h k =
     let others = same_paths texts ps qs h.1 k.1 in
     cc
 
-is_not_wrong : (given : Given) (asked : Asked) (fault : BadWords) → IsAsked given asked → IsWrong given fault → ⊥
-is_not_wrong given asked Usage h k = k
-is_not_wrong given asked BadFilter h k = has_filter given.filter asked.filter h.asks_filter k
-is_not_wrong given asked BadOrder h k = is_filter_suited given.filter asked.filter h.asks_filter k
-is_not_wrong given asked BadPath h k = all_are_paths given.paths asked.paths h.are_paths k.1
-is_not_wrong given asked RepeatedPath h k =
-    let twice = k.1 in
-    let same = same_paths given.paths asked.paths twice.paths h.are_paths twice.are_paths in
-    let unlike : is_repeated twice.paths ≡ false = subst (λ (ps : List (List Step)). is_repeated ps ≡ false) same h.unlike in
-    let is_twice = twice.is_twice in
+are_unlike : (texts : List (List ℕ)) (paths : List (List Step)) → ArePaths texts paths → is_repeated paths ≡ false → HasRepeated texts → ⊥
+are_unlike texts paths h unlike k =
+    let same = same_paths texts k.paths paths k.are_paths h in
+    let not_twice : is_repeated k.paths ≡ false = subst (λ (ps : List (List Step)). is_repeated ps ≡ false) (sym same) unlike in
+    let twice = k.is_twice in
     cc
 
-given_not_wrong : (words : List (List ℕ)) (asked : Asked) (fault : BadWords) → AskScan words asked → (given : Given) × GiveScan words given × IsWrong given fault → ⊥
-given_not_wrong words asked fault ask wrong =
-    let same : ask.0 ≡ wrong.0 = one_given words ask.0 wrong.0 ask.1 wrong.1 in
-    is_not_wrong wrong.0 asked fault (subst (λ (g : Given). IsAsked g asked) same ask.2) wrong.2
+-- of the words that ask for a query, the one thing that they give
+asked_given : (words : List (List ℕ)) (asked : Asked) (given : Given) → AskScan words asked → GiveScan words given → IsAsked given asked
+asked_given words asked given ask g = subst (λ (h : Given). IsAsked h asked) (one_given words ask.0 given ask.1 g) ask.2
 
-pub not_wrong : (words : List (List ℕ)) (asked : Asked) (fault : BadWords) → AskScan words asked → AskWrongly words fault → ⊥
+pub not_wrong : (words : List (List ℕ)) (asked : Asked) (bad : BadWords) → AskScan words asked → AskWrongly words bad → ⊥
 not_wrong words asked Usage ask wrong = wrong ask.0 ask.1
-not_wrong words asked BadFilter ask wrong = given_not_wrong words asked BadFilter ask wrong
-not_wrong words asked BadOrder ask wrong = given_not_wrong words asked BadOrder ask wrong
-not_wrong words asked BadPath ask wrong = given_not_wrong words asked BadPath ask wrong
-not_wrong words asked RepeatedPath ask wrong = given_not_wrong words asked RepeatedPath ask wrong
+not_wrong words asked BadFilter ask wrong = has_filter wrong.0.filter asked.filter (asked_given words asked wrong.0 ask wrong.1).asks_filter wrong.2
+not_wrong words asked BadOrder ask wrong = is_filter_suited wrong.0.filter asked.filter (asked_given words asked wrong.0 ask wrong.1).asks_filter wrong.2
+not_wrong words asked BadPath ask wrong = all_are_paths wrong.0.paths asked.paths (asked_given words asked wrong.0 ask wrong.1).are_paths wrong.2.1
+not_wrong words asked RepeatedPath ask wrong =
+    let is_asked = asked_given words asked wrong.0 ask wrong.1 in
+    are_unlike wrong.0.paths asked.paths is_asked.are_paths is_asked.unlike wrong.2.1

@@ -16,8 +16,8 @@ use Rattle.path_query.specs.Answer.{printed}
 use Rattle.variant_store.specs.Answer.{answer_over}
 use Rattle.variant_store.specs.Scan.{AnswersAll, AnswersPrefix, Scans}
 use Rattle.variant_store.specs.Gathered.{gathered, Extends, DrainsSome, Turns, GoesOn, StandsAt, StandsKnown, Stands, Gathers, GathersKnown, StillExtends, IsOfTurn, IsOfScan, Drains, cuts_off}
-use Rattle.variant_store.specs.declared.refusal.Refusal.{Refusal}
-use Rattle.variant_store.specs.declared.refusal.Refusal.TheVariants as refusal
+use Rattle.variant_store.specs.declared.command_error.CommandError.{CommandError}
+use Rattle.variant_store.specs.declared.command_error.CommandError.TheVariants as error
 use Rattle.variant_store.specs.declared.scan.Turn.TheVariants.{More, Ended}
 
 answer-append : (asked : Asked) (ds es : List Json) → answer_over asked (ds ++ es) ≡ answer_over asked ds ++ answer_over asked es
@@ -100,16 +100,16 @@ stands_drained asked input rest s old written new pending left h d =
     known (Some i) None k = absurd k
     known (Some i) (Some r) k = record { documents = k.documents; gathers = Appends-kept old _ _ (answer_over asked k.documents) k.gathers d.0; ahead = k.ahead }
 
-pub drain_failed : (asked : Asked) (input rest : Option (List ℕ)) (s : State) (old written new : Option (List ℕ)) (pending left : List ℕ) (f : Refusal) → Stands asked input rest s old written pending → DrainsSome written new pending left (Err f)
+pub drain_failed : (asked : Asked) (input rest : Option (List ℕ)) (s : State) (old written new : Option (List ℕ)) (pending left : List ℕ) (f : CommandError) → Stands asked input rest s old written pending → DrainsSome written new pending left (Err f)
     → GathersKnown asked input rest old new left (Err f)
 drain_failed asked None rest s old written new pending left f h d = tt
 drain_failed asked (Some i) None s old written new pending left f h d = absurd h.known
-drain_failed asked (Some i) (Some r) s old written new pending left refusal.WriteFault h d = prefix_of_all asked i r s old written new pending h.extends h.known d
-drain_failed asked (Some i) (Some r) s old written new pending left refusal.NoMemory h d = prefix_of_all asked i r s old written new pending h.extends h.known d
-drain_failed asked (Some i) (Some r) s old written new pending left (refusal.BadLine n fault) h d = absurd d
-drain_failed asked (Some i) (Some r) s old written new pending left refusal.InputTooLong h d = absurd d
-drain_failed asked (Some i) (Some r) s old written new pending left refusal.ReadFault h d = absurd d
-drain_failed asked (Some i) (Some r) s old written new pending left (refusal.BadWords fault) h d = absurd d
+drain_failed asked (Some i) (Some r) s old written new pending left error.WriteFault h d = prefix_of_all asked i r s old written new pending h.extends h.known d
+drain_failed asked (Some i) (Some r) s old written new pending left error.NoMemory h d = prefix_of_all asked i r s old written new pending h.extends h.known d
+drain_failed asked (Some i) (Some r) s old written new pending left (error.BadLine n fault) h d = absurd d
+drain_failed asked (Some i) (Some r) s old written new pending left error.InputTooLong h d = absurd d
+drain_failed asked (Some i) (Some r) s old written new pending left error.ReadFault h d = absurd d
+drain_failed asked (Some i) (Some r) s old written new pending left (error.BadWords fault) h d = absurd d
 
 -- a turn is taken
 
@@ -144,14 +144,14 @@ turn_done asked (Some i) None behind s t old written pending left h u = absurd h
 turn_done asked (Some i) (Some r) None s t old written pending left h u = absurd u
 turn_done asked (Some i) (Some r) (Some b) s t old written pending left h u = all_of asked i r s old written pending left at_end h.known u.0 u.1
 
-pub turn_failed : (asked : Asked) (input rest behind : Option (List ℕ)) (s t : State) (old written : Option (List ℕ)) (pending left : List ℕ) (f : Refusal) → Stands asked input rest s old written pending → Turns asked rest behind s t pending left (Err f)
+pub turn_failed : (asked : Asked) (input rest behind : Option (List ℕ)) (s t : State) (old written : Option (List ℕ)) (pending left : List ℕ) (f : CommandError) → Stands asked input rest s old written pending → Turns asked rest behind s t pending left (Err f)
     → GathersKnown asked input behind old written left (Err f)
 turn_failed asked None rest behind s t old written pending left f h u = tt
 turn_failed asked (Some i) None behind s t old written pending left f h u = absurd h.known
 turn_failed asked (Some i) (Some r) None s t old written pending left f h u = absurd u
-turn_failed asked (Some i) (Some r) (Some b) s t old written pending left (refusal.BadLine n fault) h u = all_of asked i r s old written pending left (at_line n fault) h.known u.0 u.1
-turn_failed asked (Some i) (Some r) (Some b) s t old written pending left refusal.InputTooLong h u = all_of asked i r s old written pending left at_limit h.known u.0 u.1
-turn_failed asked (Some i) (Some r) (Some b) s t old written pending left refusal.ReadFault h u =
+turn_failed asked (Some i) (Some r) (Some b) s t old written pending left (error.BadLine n fault) h u = all_of asked i r s old written pending left (at_line n fault) h.known u.0 u.1
+turn_failed asked (Some i) (Some r) (Some b) s t old written pending left error.InputTooLong h u = all_of asked i r s old written pending left at_limit h.known u.0 u.1
+turn_failed asked (Some i) (Some r) (Some b) s t old written pending left error.ReadFault h u =
     let k = h.known in
     record {
       documents = k.documents;
@@ -164,45 +164,45 @@ turn_failed asked (Some i) (Some r) (Some b) s t old written pending left refusa
       no_lf = u.1;
       ahead = λ more ending w. k.ahead more ending (u.2 more ending w);
     }
-turn_failed asked (Some i) (Some r) (Some b) s t old written pending left refusal.NoMemory h u = prefix_of_all asked i r s old written written pending h.extends h.known (no_prefix written pending)
-turn_failed asked (Some i) (Some r) (Some b) s t old written pending left refusal.WriteFault h u = absurd u
-turn_failed asked (Some i) (Some r) (Some b) s t old written pending left (refusal.BadWords fault) h u = absurd u
+turn_failed asked (Some i) (Some r) (Some b) s t old written pending left error.NoMemory h u = prefix_of_all asked i r s old written written pending h.extends h.known (no_prefix written pending)
+turn_failed asked (Some i) (Some r) (Some b) s t old written pending left error.WriteFault h u = absurd u
+turn_failed asked (Some i) (Some r) (Some b) s t old written pending left (error.BadWords fault) h u = absurd u
 
 pub drained_extends : (a b c : Option (List ℕ)) (pending left : List ℕ) → Extends a b → DrainsSome b c pending left (Ok tt) → Extends a c
 drained_extends a b c pending left x d = extends-trans a b c x d.1
 
-pub still_extends : (a b : Option (List ℕ)) (f : Refusal) → Extends a b → StillExtends a b (Err f)
-still_extends a b (refusal.BadLine n fault) x = x
-still_extends a b refusal.InputTooLong x = x
-still_extends a b refusal.ReadFault x = x
-still_extends a b refusal.WriteFault x = tt
-still_extends a b refusal.NoMemory x = tt
-still_extends a b (refusal.BadWords fault) x = tt
+pub still_extends : (a b : Option (List ℕ)) (f : CommandError) → Extends a b → StillExtends a b (Err f)
+still_extends a b (error.BadLine n fault) x = x
+still_extends a b error.InputTooLong x = x
+still_extends a b error.ReadFault x = x
+still_extends a b error.WriteFault x = tt
+still_extends a b error.NoMemory x = tt
+still_extends a b (error.BadWords fault) x = tt
 
 -- a refused turn isn't a refused write
-pub no_write_fault : (before now : ℕ) (f : Refusal) → before ≤ now → IsOfTurn (Err f) → HasCauseAt before now (IsErrOf {T = Unit {0}} (Err f) refusal.WriteFault)
-no_write_fault before now refusal.WriteFault le t = absurd t
-no_write_fault before now (refusal.BadLine n fault) le t = record { later = le; cause = λ e. cc }
-no_write_fault before now refusal.InputTooLong le t = record { later = le; cause = λ e. cc }
-no_write_fault before now refusal.ReadFault le t = record { later = le; cause = λ e. cc }
-no_write_fault before now refusal.NoMemory le t = record { later = le; cause = λ e. cc }
-no_write_fault before now (refusal.BadWords fault) le t = absurd t
+pub no_write_fault : (before now : ℕ) (f : CommandError) → before ≤ now → IsOfTurn (Err f) → HasCauseAt before now (IsErrOf {T = Unit {0}} (Err f) error.WriteFault)
+no_write_fault before now error.WriteFault le t = absurd t
+no_write_fault before now (error.BadLine n fault) le t = record { later = le; cause = λ e. cc }
+no_write_fault before now error.InputTooLong le t = record { later = le; cause = λ e. cc }
+no_write_fault before now error.ReadFault le t = record { later = le; cause = λ e. cc }
+no_write_fault before now error.NoMemory le t = record { later = le; cause = λ e. cc }
+no_write_fault before now (error.BadWords fault) le t = absurd t
 
-pub of_scan : (f : Refusal) → IsOfTurn (Err f) → IsOfScan (Err f)
-of_scan (refusal.BadLine n fault) t = tt
-of_scan refusal.InputTooLong t = tt
-of_scan refusal.ReadFault t = tt
-of_scan refusal.WriteFault t = tt
-of_scan refusal.NoMemory t = tt
-of_scan (refusal.BadWords fault) t = absurd t
+pub of_scan : (f : CommandError) → IsOfTurn (Err f) → IsOfScan (Err f)
+of_scan (error.BadLine n fault) t = tt
+of_scan error.InputTooLong t = tt
+of_scan error.ReadFault t = tt
+of_scan error.WriteFault t = tt
+of_scan error.NoMemory t = tt
+of_scan (error.BadWords fault) t = absurd t
 
-pub of_drain : (old new : Option (List ℕ)) (pending left : List ℕ) (f : Refusal) → DrainsSome old new pending left (Err f) → IsOfScan (Err f)
-of_drain old new pending left (refusal.BadLine n fault) d = tt
-of_drain old new pending left refusal.InputTooLong d = tt
-of_drain old new pending left refusal.ReadFault d = tt
-of_drain old new pending left refusal.WriteFault d = tt
-of_drain old new pending left refusal.NoMemory d = tt
-of_drain old new pending left (refusal.BadWords fault) d = absurd d
+pub of_drain : (old new : Option (List ℕ)) (pending left : List ℕ) (f : CommandError) → DrainsSome old new pending left (Err f) → IsOfScan (Err f)
+of_drain old new pending left (error.BadLine n fault) d = tt
+of_drain old new pending left error.InputTooLong d = tt
+of_drain old new pending left error.ReadFault d = tt
+of_drain old new pending left error.WriteFault d = tt
+of_drain old new pending left error.NoMemory d = tt
+of_drain old new pending left (error.BadWords fault) d = absurd d
 
 -- the end of a scan
 
@@ -211,33 +211,33 @@ all_cut : (asked : Asked) (input : List ℕ) (ending : Ending) (old written new 
 all_cut asked input ending old written new pending x h p =
     (h.0, ending, h.1, subst (λ (t : List ℕ). AppendsPrefix old new t) (append-nil (answer_over asked h.0)) (prefix_written old written new pending (answer_over asked h.0) [] x h.2 p))
 
-gathered_cut : (asked : Asked) (input : List ℕ) (rest old written new : Option (List ℕ)) (pending : List ℕ) (done : Result (Unit {0}) Refusal) → Gathers asked input rest old written pending done → StillExtends old written done → cuts_off done ≡ false
+gathered_cut : (asked : Asked) (input : List ℕ) (rest old written new : Option (List ℕ)) (pending : List ℕ) (done : Result (Unit {0}) CommandError) → Gathers asked input rest old written pending done → StillExtends old written done → cuts_off done ≡ false
     → AppendsPrefix written new pending → AnswersPrefix asked input old new
 gathered_cut asked input rest old written new pending (Ok u) h x e p = all_cut asked input at_end old written new pending x h p
-gathered_cut asked input rest old written new pending (Err (refusal.BadLine n fault)) h x e p = all_cut asked input (at_line n fault) old written new pending x h p
-gathered_cut asked input rest old written new pending (Err refusal.InputTooLong) h x e p = all_cut asked input at_limit old written new pending x h p
-gathered_cut asked input rest old written new pending (Err refusal.ReadFault) h x e p =
+gathered_cut asked input rest old written new pending (Err (error.BadLine n fault)) h x e p = all_cut asked input (at_line n fault) old written new pending x h p
+gathered_cut asked input rest old written new pending (Err error.InputTooLong) h x e p = all_cut asked input at_limit old written new pending x h p
+gathered_cut asked input rest old written new pending (Err error.ReadFault) h x e p =
     let w = walked (lines_of h.room (h.held ++ h.rest)) h.number in (
       h.documents ++ w.documents,
       w.ending,
       h.ahead w.documents w.ending w.walks,
       subst (λ (t : List ℕ). AppendsPrefix old new t) (sym (answer-append asked h.documents w.documents)) (prefix_written old written new pending (answer_over asked h.documents) (answer_over asked w.documents) x h.appends p),
     )
-gathered_cut asked input rest old written new pending (Err refusal.WriteFault) h x e p = cc
-gathered_cut asked input rest old written new pending (Err refusal.NoMemory) h x e p = cc
-gathered_cut asked input rest old written new pending (Err (refusal.BadWords fault)) h x e p = cc
+gathered_cut asked input rest old written new pending (Err error.WriteFault) h x e p = cc
+gathered_cut asked input rest old written new pending (Err error.NoMemory) h x e p = cc
+gathered_cut asked input rest old written new pending (Err (error.BadWords fault)) h x e p = cc
 
-pub scan_cut : (asked : Asked) (input rest old written new : Option (List ℕ)) (pending left : List ℕ) (done : Result (Unit {0}) Refusal) (f : Refusal) → GathersKnown asked input rest old written pending done → StillExtends old written done
+pub scan_cut : (asked : Asked) (input rest old written new : Option (List ℕ)) (pending left : List ℕ) (done : Result (Unit {0}) CommandError) (f : CommandError) → GathersKnown asked input rest old written pending done → StillExtends old written done
     → cuts_off done ≡ false → Drains written new pending left (Err f) → Scans asked input rest old new (Err f)
 scan_cut asked None rest old written new pending left done f h x e d = tt
-scan_cut asked (Some i) rest old written new pending left done refusal.WriteFault h x e d = gathered_cut asked i rest old written new pending done h x e d
-scan_cut asked (Some i) rest old written new pending left done refusal.NoMemory h x e d = gathered_cut asked i rest old written new pending done h x e d
-scan_cut asked (Some i) rest old written new pending left done (refusal.BadLine n fault) h x e d = absurd d
-scan_cut asked (Some i) rest old written new pending left done refusal.InputTooLong h x e d = absurd d
-scan_cut asked (Some i) rest old written new pending left done refusal.ReadFault h x e d = absurd d
-scan_cut asked (Some i) rest old written new pending left done (refusal.BadWords fault) h x e d = absurd d
+scan_cut asked (Some i) rest old written new pending left done error.WriteFault h x e d = gathered_cut asked i rest old written new pending done h x e d
+scan_cut asked (Some i) rest old written new pending left done error.NoMemory h x e d = gathered_cut asked i rest old written new pending done h x e d
+scan_cut asked (Some i) rest old written new pending left done (error.BadLine n fault) h x e d = absurd d
+scan_cut asked (Some i) rest old written new pending left done error.InputTooLong h x e d = absurd d
+scan_cut asked (Some i) rest old written new pending left done error.ReadFault h x e d = absurd d
+scan_cut asked (Some i) rest old written new pending left done (error.BadWords fault) h x e d = absurd d
 
-pub scan_unstarted : (asked : Asked) (input rest written : Option (List ℕ)) → Scans asked input rest written written (Err refusal.NoMemory)
+pub scan_unstarted : (asked : Asked) (input rest written : Option (List ℕ)) → Scans asked input rest written written (Err error.NoMemory)
 scan_unstarted asked None rest written = tt
 scan_unstarted asked (Some i) rest written = let w = walked (lines_of max_input i) 0 in (w.documents, w.ending, w.walks, no_prefix written (answer_over asked w.documents))
 
@@ -247,13 +247,13 @@ written_all (Some a) None new pending answer g d = absurd g
 written_all (Some a) (Some b) None pending answer g d = absurd d
 written_all (Some a) (Some b) (Some c) pending answer g d = d ∙ g
 
-pub scan_done : (asked : Asked) (input rest old written new : Option (List ℕ)) (pending left : List ℕ) (done : Result (Unit {0}) Refusal) → GathersKnown asked input rest old written pending done
+pub scan_done : (asked : Asked) (input rest old written new : Option (List ℕ)) (pending left : List ℕ) (done : Result (Unit {0}) CommandError) → GathersKnown asked input rest old written pending done
     → cuts_off done ≡ false → Drains written new pending left (Ok tt) → Scans asked input rest old new done
 scan_done asked None rest old written new pending left done h e d = tt
 scan_done asked (Some i) rest old written new pending left (Ok u) h e d = (h.0, h.1, written_all old written new pending _ h.2 d.0)
-scan_done asked (Some i) rest old written new pending left (Err (refusal.BadLine n fault)) h e d = (h.0, h.1, written_all old written new pending _ h.2 d.0)
-scan_done asked (Some i) rest old written new pending left (Err refusal.InputTooLong) h e d = (h.0, h.1, written_all old written new pending _ h.2 d.0)
-scan_done asked (Some i) rest old written new pending left (Err refusal.ReadFault) h e d = record {
+scan_done asked (Some i) rest old written new pending left (Err (error.BadLine n fault)) h e d = (h.0, h.1, written_all old written new pending _ h.2 d.0)
+scan_done asked (Some i) rest old written new pending left (Err error.InputTooLong) h e d = (h.0, h.1, written_all old written new pending _ h.2 d.0)
+scan_done asked (Some i) rest old written new pending left (Err error.ReadFault) h e d = record {
   documents = h.documents;
   appends = written_all old written new pending _ h.appends d.0;
   number = h.number;
@@ -264,6 +264,6 @@ scan_done asked (Some i) rest old written new pending left (Err refusal.ReadFaul
   no_lf = h.no_lf;
   ahead = h.ahead;
 }
-scan_done asked (Some i) rest old written new pending left (Err refusal.WriteFault) h e d = cc
-scan_done asked (Some i) rest old written new pending left (Err refusal.NoMemory) h e d = cc
-scan_done asked (Some i) rest old written new pending left (Err (refusal.BadWords fault)) h e d = cc
+scan_done asked (Some i) rest old written new pending left (Err error.WriteFault) h e d = cc
+scan_done asked (Some i) rest old written new pending left (Err error.NoMemory) h e d = cc
+scan_done asked (Some i) rest old written new pending left (Err (error.BadWords fault)) h e d = cc

@@ -1,19 +1,18 @@
 -- Lemmas on the reading of words.
-use Rattle.std.proofs.Common.{◌≡◌, ◌∙◌, refl, sym, ap, ℕ, ◌+◌, ◌<◌, List, [], ◌∷◌, ◌++◌, length, zero, suc, map, take, get_or, arith, Bool, true, false, not, Result, Ok, Err}
+use Rattle.std.proofs.Common.{◌≡◌, ◌∙◌, inl, inr, refl, sym, ap, subst, ℕ, ◌+◌, ◌<◌, List, [], ◌∷◌, ◌++◌, length, zero, suc, map, take, get_or, arith, Bool, true, false, not, Some}
 use Rattle.std.specs.Borrow.{Bor}
 use Rattle.std.specs.Cmp.Lexicographic.{same_text, pointwise}
 use Rattle.std.specs.Prelude.{nat_eq, codes}
 use Rattle.std.proofs.lemmas.List.{map-append}
-use Rattle.command_words.specs.Scan.{Given}
+use Rattle.command_words.specs.Scan.{Given, scan_words}
 use Rattle.query_tree.specs.declared.step.Step.{Step}
-use Rattle.query_tree.specs.declared.query.Query.{Query}
 use Rattle.query_tree.specs.declared.path.Path.{Path}
 use Rattle.query_tree.specs.View.{steps_of}
 use Rattle.path_grammar.specs.Grammar.{IsPath}
-use Rattle.variant_store.specs.Words.{GiveScan, ArePaths, PathBy, PathsOf, ScanAsks, Asks}
-use Rattle.variant_store.specs.declared.refusal.BadWords.TheVariants.{Usage, BadFilter, BadOrder, BadPath, RepeatedPath}
-use Rattle.variant_store.specs.declared.refusal.Refusal.{Refusal}
-use Rattle.variant_store.specs.declared.refusal.Refusal.TheVariants as refusal
+use Rattle.variant_store.specs.Words.{GiveScan, ArePaths, IsFiltered, AskWrongly, Refuses, IsWrongFilter, IsWrongPath, AreWrongPaths}
+use Rattle.variant_store.specs.declared.words.BadWords.{BadWords}
+use Rattle.variant_store.specs.declared.words.WordsFault.{WordsFault}
+use Rattle.variant_store.specs.declared.words.WordsFault.TheVariants.{Wrong, NoMemory}
 
 paths_push : (texts : List (List ℕ)) (paths : List (List Step)) (text : List ℕ) (steps : List Step) → ArePaths texts paths → IsPath text steps → ArePaths (texts ++ text ∷ []) (paths ++ steps ∷ [])
 paths_push [] [] text steps h p = (p, tt)
@@ -45,32 +44,25 @@ paths_more texts i d old new path less grown h p =
     rw (grown, take_next texts i d less, map-append, map-append) (paths_push (texts_of (take i texts)) (map steps_of old) (get_or texts i d).now (steps_of path) h p)
 
 -- one of the texts is no path
-pub path_wrong : (texts : List (Bor (List ℕ))) (i : ℕ) (d : Bor (List ℕ)) (r : Refusal) → i < length texts → PathBy {A = Path} steps_of (get_or texts i d).now (Err r) → PathsOf {A = List Path} (λ paths. map steps_of paths) (texts_of texts) (Err r)
-path_wrong texts i d (refusal.BadWords Usage) less h = h
-path_wrong texts i d (refusal.BadWords BadFilter) less h = h
-path_wrong texts i d (refusal.BadWords BadOrder) less h = h
-path_wrong texts i d (refusal.BadWords BadPath) less h =
-    record { text = (get_or texts i d).now; is_given = (i, omega (less, length_texts texts, arith), text_at texts i d (get_or texts i d).now less); is_none = h }
-path_wrong texts i d (refusal.BadWords RepeatedPath) less h = h
-path_wrong texts i d refusal.NoMemory less h = tt
-path_wrong texts i d (refusal.BadLine n fault) less h = h
-path_wrong texts i d refusal.InputTooLong less h = h
-path_wrong texts i d refusal.ReadFault less h = h
-path_wrong texts i d refusal.WriteFault less h = h
+pub path_wrong : (texts : List (Bor (List ℕ))) (i : ℕ) (d : Bor (List ℕ)) (fault : WordsFault) → i < length texts → Refuses (IsWrongPath (get_or texts i d).now) fault → Refuses (AreWrongPaths (texts_of texts)) fault
+path_wrong texts i d (Wrong bad) less h =
+    (h.0, record { text = (get_or texts i d).now; is_given = (i, omega (less, length_texts texts, arith), text_at texts i d (get_or texts i d).now less); is_none = h.1 })
+path_wrong texts i d NoMemory less h = tt
 
--- what is given behind `scan` is asked
-pub asks : (words : List (List ℕ)) (given : Given) (r : Result Query Refusal) → GiveScan words given → ScanAsks given r → Asks words r
-asks words given (Ok query) g h = (given, g, h)
-asks words given (Err (refusal.BadWords Usage)) g h = absurd h
-asks words given (Err (refusal.BadWords BadFilter)) g h = (given, g, h)
-asks words given (Err (refusal.BadWords BadOrder)) g h = (given, g, h)
-asks words given (Err (refusal.BadWords BadPath)) g h = (given, g, h)
-asks words given (Err (refusal.BadWords RepeatedPath)) g h = (given, g, h)
-asks words given (Err refusal.NoMemory) g h = tt
-asks words given (Err (refusal.BadLine n fault)) g h = h
-asks words given (Err refusal.InputTooLong) g h = h
-asks words given (Err refusal.ReadFault) g h = h
-asks words given (Err refusal.WriteFault) g h = h
+-- what is wrong with the filter or the paths is wrong with the words
+
+pub filter_refused : (words : List (List ℕ)) (given : Given) (fault : WordsFault) → GiveScan words given → Refuses (IsWrongFilter given.filter) fault → Refuses (AskWrongly words) fault
+filter_refused words given (Wrong bad) g (inl h) = subst (λ (b : BadWords). AskWrongly words b) (sym h.0) (given, g, h.1)
+filter_refused words given (Wrong bad) g (inr h) = subst (λ (b : BadWords). AskWrongly words b) (sym h.0) (given, g, h.1)
+filter_refused words given NoMemory g h = tt
+
+pub paths_refused : (words : List (List ℕ)) (given : Given) (fault : WordsFault) → GiveScan words given → IsFiltered given → Refuses (AreWrongPaths given.paths) fault → Refuses (AskWrongly words) fault
+paths_refused words given (Wrong bad) g filtered h = subst (λ (b : BadWords). AskWrongly words b) (sym h.0) (given, g, (filtered, h.1))
+paths_refused words given NoMemory g filtered h = tt
+
+-- what is given after `scan` is given by the words
+pub gives_scan : (words : List (List ℕ)) (given : Given) → scan_words words ≡ Some given → GiveScan (codes "scan" ∷ words) given
+gives_scan words given e = record { rest = words; are_scan = refl; are_given = e }
 
 same_bytes : (a b : List ℕ) → not (pointwise nat_eq a b) ≡ false → a ≡ b
 same_bytes a b h = by (pointwise nat_eq a b) refl h

@@ -10,8 +10,8 @@ use Rattle.exact_json.proofs.Walks.{walk_document, walk_faulty, walk_long, walk_
 use Rattle.exact_json.specs.declared.fault.DocFault.TheVariants.{LineTooLong}
 use Rattle.query_tree.specs.Asked.{Asked}
 use Rattle.variant_store.specs.Gathered.{GathersLine, Turns}
-use Rattle.variant_store.specs.declared.refusal.Refusal.{Refusal}
-use Rattle.variant_store.specs.declared.refusal.Refusal.TheVariants as refusal
+use Rattle.variant_store.specs.declared.command_error.CommandError.{CommandError}
+use Rattle.variant_store.specs.declared.command_error.CommandError.TheVariants as error
 use Rattle.variant_store.specs.declared.scan.Turn.TheVariants.{More, Ended}
 
 pub turn_ended : (asked : Asked) (rest behind : Option (List ℕ)) (s t : State) (p : List ℕ) → ComesFrom rest behind s t (Ok next.End) → Turns asked rest behind s t p p (Ok Ended)
@@ -19,12 +19,12 @@ turn_ended asked None behind s t p c = tt
 turn_ended asked (Some rest) None s t p c = absurd c
 turn_ended asked (Some rest) (Some behind) s t p c = (walk_end (lines_ahead s rest) s.number c.0, refl)
 
-pub turn_long : (asked : Asked) (rest behind : Option (List ℕ)) (s t : State) (p : List ℕ) (n : ℕ) → ComesFrom rest behind s t (Ok (next.TooLong n)) → Turns asked rest behind s t p p (Err (refusal.BadLine n LineTooLong))
+pub turn_long : (asked : Asked) (rest behind : Option (List ℕ)) (s t : State) (p : List ℕ) (n : ℕ) → ComesFrom rest behind s t (Ok (next.TooLong n)) → Turns asked rest behind s t p p (Err (error.BadLine n LineTooLong))
 turn_long asked None behind s t p n c = tt
 turn_long asked (Some rest) None s t p n c = absurd c
 turn_long asked (Some rest) (Some behind) s t p n c = (walk_long (lines_ahead s rest) s.number n c, refl)
 
-pub turn_over : (asked : Asked) (rest behind : Option (List ℕ)) (s t : State) (p : List ℕ) → ComesFrom rest behind s t (Err reading.InputTooLong) → Turns asked rest behind s t p p (Err refusal.InputTooLong)
+pub turn_over : (asked : Asked) (rest behind : Option (List ℕ)) (s t : State) (p : List ℕ) → ComesFrom rest behind s t (Err reading.InputTooLong) → Turns asked rest behind s t p p (Err error.InputTooLong)
 turn_over asked None behind s t p c = tt
 turn_over asked (Some rest) None s t p c = absurd c
 turn_over asked (Some rest) (Some behind) s t p c = (walk_over (lines_ahead s rest) s.number c, refl)
@@ -36,17 +36,17 @@ turn_more asked (Some rest) None s t p q n bytes c g = absurd c
 turn_more asked (Some rest) (Some behind) s t p q n bytes c g =
     (g.0, g.2, λ more ending w. walk_document (lines_ahead s rest) s.number n bytes (lines_ahead t behind) g.0 more ending c.0 g.1 (subst (λ (m : ℕ). Walks (lines_ahead t behind) m more ending) c.1 w))
 
-pub turn_refused : (asked : Asked) (rest behind : Option (List ℕ)) (s t : State) (p q : List ℕ) (n : ℕ) (bytes : List ℕ) (f : Refusal) → ComesFrom rest behind s t (Ok (next.Line n bytes))
+pub turn_refused : (asked : Asked) (rest behind : Option (List ℕ)) (s t : State) (p q : List ℕ) (n : ℕ) (bytes : List ℕ) (f : CommandError) → ComesFrom rest behind s t (Ok (next.Line n bytes))
     → GathersLine asked n bytes p q (Err f) → Turns asked rest behind s t p q (Err f)
 turn_refused asked None behind s t p q n bytes f c g = tt
 turn_refused asked (Some rest) None s t p q n bytes f c g = absurd c
-turn_refused asked (Some rest) (Some behind) s t p q n bytes (refusal.BadLine m fault) c g =
+turn_refused asked (Some rest) (Some behind) s t p q n bytes (error.BadLine m fault) c g =
     (subst (λ (k : ℕ). Walks (lines_ahead s rest) s.number [] (at_line k fault)) (sym g.0) (walk_faulty (lines_ahead s rest) s.number n bytes (lines_ahead t behind) fault c.0 g.1), g.2)
-turn_refused asked (Some rest) (Some behind) s t p q n bytes refusal.NoMemory c g = g
-turn_refused asked (Some rest) (Some behind) s t p q n bytes refusal.InputTooLong c g = absurd g
-turn_refused asked (Some rest) (Some behind) s t p q n bytes refusal.ReadFault c g = absurd g
-turn_refused asked (Some rest) (Some behind) s t p q n bytes refusal.WriteFault c g = absurd g
-turn_refused asked (Some rest) (Some behind) s t p q n bytes (refusal.BadWords fault) c g = absurd g
+turn_refused asked (Some rest) (Some behind) s t p q n bytes error.NoMemory c g = g
+turn_refused asked (Some rest) (Some behind) s t p q n bytes error.InputTooLong c g = absurd g
+turn_refused asked (Some rest) (Some behind) s t p q n bytes error.ReadFault c g = absurd g
+turn_refused asked (Some rest) (Some behind) s t p q n bytes error.WriteFault c g = absurd g
+turn_refused asked (Some rest) (Some behind) s t p q n bytes (error.BadWords fault) c g = absurd g
 
 -- a line that is found isn't blank
 found_not_blank : (ls : Lines) (n m : ℕ) (l : List ℕ) (behind : Lines) → first_line n ls ≡ found_line m l behind → is_blank l ≡ false
@@ -90,7 +90,7 @@ same_walks ls ks n m more ending (found_line k l behind) e f w = by (judge l)
         (walk_document ls n k l behind json rest.documents rest.ending e j.1 rest.walks) (walk_document ks m k l behind json rest.documents rest.ending f j.1 rest.walks)
     by (faulty fault, j) = as_walked ls ks n m more [] ending (at_line k fault) w (walk_faulty ls n k l behind fault e j.1) (walk_faulty ks m k l behind fault f j.1)
 
-pub turn_unread : (asked : Asked) (rest behind : Option (List ℕ)) (s t : State) (p : List ℕ) → ComesFrom rest behind s t (Err reading.ReadFault) → Turns asked rest behind s t p p (Err refusal.ReadFault)
+pub turn_unread : (asked : Asked) (rest behind : Option (List ℕ)) (s t : State) (p : List ℕ) → ComesFrom rest behind s t (Err reading.ReadFault) → Turns asked rest behind s t p p (Err error.ReadFault)
 turn_unread asked None behind s t p c = tt
 turn_unread asked (Some rest) None s t p c = absurd c
 turn_unread asked (Some rest) (Some behind) s t p c =

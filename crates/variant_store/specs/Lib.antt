@@ -1,4 +1,5 @@
 pub mod Answer
+pub mod Command
 pub mod Gathered
 pub mod Report
 pub mod Scan

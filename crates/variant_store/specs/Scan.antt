@@ -7,8 +7,8 @@ use Rattle.json_lines.specs.Cut.{lines_of}
 use Rattle.exact_json.specs.Documents.{Ending, at_end, at_line, at_limit, Walks, HasDocuments}
 use Rattle.query_tree.specs.Asked.{Asked}
 use Rattle.variant_store.specs.Answer.{answer_over}
-use Rattle.variant_store.specs.declared.refusal.Refusal.{Refusal}
-use Rattle.variant_store.specs.declared.refusal.Refusal.TheVariants as refusal
+use Rattle.variant_store.specs.declared.command_error.CommandError.{CommandError}
+use Rattle.variant_store.specs.declared.command_error.CommandError.TheVariants as error
 
 -- the output gained the answer over the documents of the whole input, whose walk ends there
 abbrev pub AnswersAll : Asked → List ℕ → Ending → Option (List ℕ) → Option (List ℕ) → Type 0
@@ -32,16 +32,16 @@ abbrev pub AnswersPrefix : Asked → List ℕ → Option (List ℕ) → Option (
 AnswersPrefix asked input old new = (documents : List Json) × (ending : Ending) × HasDocuments input documents ending × AppendsPrefix old new (answer_over asked documents)
 
 -- by the answer of a scan over known input, of which `left` is left
-abbrev pub Writes : Asked → List ℕ → Option (List ℕ) → Option (List ℕ) → Option (List ℕ) → Result (Unit {0}) Refusal → Type 0
+abbrev pub Writes : Asked → List ℕ → Option (List ℕ) → Option (List ℕ) → Option (List ℕ) → Result (Unit {0}) CommandError → Type 0
 Writes asked input left old new (Ok _) = AnswersAll asked input at_end old new
-Writes asked input left old new (Err (refusal.BadLine n fault)) = AnswersAll asked input (at_line n fault) old new
-Writes asked input left old new (Err refusal.InputTooLong) = AnswersAll asked input at_limit old new
-Writes asked input left old new (Err refusal.ReadFault) = AnswersRead asked input left old new
-Writes asked input left old new (Err refusal.WriteFault) = AnswersPrefix asked input old new
-Writes asked input left old new (Err refusal.NoMemory) = AnswersPrefix asked input old new
-Writes asked input left old new (Err (refusal.BadWords fault)) = ⊥
+Writes asked input left old new (Err (error.BadLine n fault)) = AnswersAll asked input (at_line n fault) old new
+Writes asked input left old new (Err error.InputTooLong) = AnswersAll asked input at_limit old new
+Writes asked input left old new (Err error.ReadFault) = AnswersRead asked input left old new
+Writes asked input left old new (Err error.WriteFault) = AnswersPrefix asked input old new
+Writes asked input left old new (Err error.NoMemory) = AnswersPrefix asked input old new
+Writes asked input left old new (Err (error.BadWords fault)) = ⊥
 
 -- the same where the input may be unknown
-abbrev pub Scans : Asked → Option (List ℕ) → Option (List ℕ) → Option (List ℕ) → Option (List ℕ) → Result (Unit {0}) Refusal → Type 0
+abbrev pub Scans : Asked → Option (List ℕ) → Option (List ℕ) → Option (List ℕ) → Option (List ℕ) → Result (Unit {0}) CommandError → Type 0
 Scans asked None left old new result = Unit {0}
 Scans asked (Some input) left old new result = Writes asked input left old new result

@@ -1,18 +1,17 @@
--- What the words of a call ask for.
-use Rattle.std.specs.Prelude.{◌≡◌, ℕ, List, [], ◌∷◌, map, codes, Bool, true, false, Option, Some, None, Result, Ok, Err, Contains}
+-- What the words of a call ask for, and what is wrong with those that ask for nothing.
+use Rattle.std.specs.Prelude.{◌≡◌, ◌⊎◌, ℕ, List, [], ◌∷◌, map, codes, Bool, true, false, Option, Some, None, Result, Ok, Err, Contains}
 use Rattle.vs_bytes.specs.Names.{repeats}
 use Rattle.command_words.specs.Scan.{Given, scan_words}
-use Rattle.query_tree.specs.Asked.{Asked, asked}
+use Rattle.query_tree.specs.Asked.{Asked}
 use Rattle.query_tree.specs.Formula.{Formula, is_suited}
 use Rattle.query_tree.specs.PathText.{path_text}
-use Rattle.query_tree.specs.declared.query.Query.{Query}
 use Rattle.query_tree.specs.declared.step.Step.{Step}
 use Rattle.path_grammar.specs.Grammar.{IsPath}
 use Rattle.filter_grammar.specs.Grammar.{IsFilter}
-use Rattle.variant_store.specs.declared.refusal.BadWords.{BadWords}
-use Rattle.variant_store.specs.declared.refusal.BadWords.TheVariants.{Usage, BadFilter, BadOrder, BadPath, RepeatedPath}
-use Rattle.variant_store.specs.declared.refusal.Refusal.{Refusal}
-use Rattle.variant_store.specs.declared.refusal.Refusal.TheVariants as refusal
+use Rattle.variant_store.specs.declared.words.BadWords.{BadWords}
+use Rattle.variant_store.specs.declared.words.BadWords.TheVariants.{Usage, BadFilter, BadOrder, BadPath, RepeatedPath}
+use Rattle.variant_store.specs.declared.words.WordsFault.{WordsFault}
+use Rattle.variant_store.specs.declared.words.WordsFault.TheVariants.{Wrong, NoMemory}
 
 -- the words are `scan` and words of it, which give this
 pub record GiveScan (words : List (List ℕ)) (given : Given) : Type 0 where
@@ -73,90 +72,39 @@ pub record HasRepeated (texts : List (List ℕ)) : Type 0 where
 abbrev pub IsFiltered : Given → Type 0
 IsFiltered given = (filter : Option Formula) × AsksFilter given.filter filter
 
-abbrev pub IsWrong : Given → BadWords → Type 0
-IsWrong given Usage = ⊥
-IsWrong given BadFilter = LacksFilter given.filter
-IsWrong given BadOrder = HasUnsuited given.filter
-IsWrong given BadPath = IsFiltered given × LacksPath given.paths
-IsWrong given RepeatedPath = IsFiltered given × HasRepeated given.paths
-
 -- the words ask for this query
 abbrev pub AskScan : List (List ℕ) → Asked → Type 0
 AskScan words asked = (given : Given) × GiveScan words given × IsAsked given asked
 
+-- the words are those of a command, and what they give is wrong in this way
+abbrev pub GiveWrong : List (List ℕ) → (Given → Type 0) → Type 0
+GiveWrong words IsBad = (given : Given) × GiveScan words given × IsBad given
+
 -- the words ask for nothing: they aren't those of a command, or what they give is wrong
 abbrev pub AskWrongly : List (List ℕ) → BadWords → Type 0
 AskWrongly words Usage = (given : Given) → GiveScan words given → ⊥
-AskWrongly words BadFilter = (given : Given) × GiveScan words given × IsWrong given BadFilter
-AskWrongly words BadOrder = (given : Given) × GiveScan words given × IsWrong given BadOrder
-AskWrongly words BadPath = (given : Given) × GiveScan words given × IsWrong given BadPath
-AskWrongly words RepeatedPath = (given : Given) × GiveScan words given × IsWrong given RepeatedPath
+AskWrongly words BadFilter = GiveWrong words (λ given. LacksFilter given.filter)
+AskWrongly words BadOrder = GiveWrong words (λ given. HasUnsuited given.filter)
+AskWrongly words BadPath = GiveWrong words (λ given. IsFiltered given × LacksPath given.paths)
+AskWrongly words RepeatedPath = GiveWrong words (λ given. IsFiltered given × HasRepeated given.paths)
 
--- What the readers of words and of their parts answer.
+-- What the readers of words answer: what is asked, or what is wrong. Want of memory says nothing.
 
-abbrev pub Asks : List (List ℕ) → Result Query Refusal → Type 0
-Asks words (Ok query) = AskScan words (asked query)
-Asks words (Err (refusal.BadWords fault)) = AskWrongly words fault
-Asks words (Err refusal.NoMemory) = Unit {0}
-Asks words (Err (refusal.BadLine n fault)) = ⊥
-Asks words (Err refusal.InputTooLong) = ⊥
-Asks words (Err refusal.ReadFault) = ⊥
-Asks words (Err refusal.WriteFault) = ⊥
+abbrev pub Refuses : (BadWords → Type 0) → WordsFault → Type 0
+Refuses IsBad (Wrong bad) = IsBad bad
+Refuses IsBad NoMemory = Unit {0}
 
-abbrev pub ScanAsks : Given → Result Query Refusal → Type 0
-ScanAsks given (Ok query) = IsAsked given (asked query)
-ScanAsks given (Err (refusal.BadWords fault)) = IsWrong given fault
-ScanAsks given (Err refusal.NoMemory) = Unit {0}
-ScanAsks given (Err (refusal.BadLine n fault)) = ⊥
-ScanAsks given (Err refusal.InputTooLong) = ⊥
-ScanAsks given (Err refusal.ReadFault) = ⊥
-ScanAsks given (Err refusal.WriteFault) = ⊥
+abbrev pub Reads : {A : Type 0} → (A → Type 0) → (BadWords → Type 0) → Result A WordsFault → Type 0
+Reads IsRight IsBad (Ok a) = IsRight a
+Reads IsRight IsBad (Err fault) = Refuses IsBad fault
 
--- what is wrong with a filter's text alone, with the text of a path, and with the texts of paths
-abbrev pub IsFilterWrong : Option (List ℕ) → BadWords → Type 0
-IsFilterWrong text BadFilter = LacksFilter text
-IsFilterWrong text BadOrder = HasUnsuited text
-IsFilterWrong text Usage = ⊥
-IsFilterWrong text BadPath = ⊥
-IsFilterWrong text RepeatedPath = ⊥
+-- what may be wrong with a filter's text alone, with a path's text, and with paths' texts
 
-abbrev pub FiltersBy : {A : Type 0} → (A → Option Formula) → Option (List ℕ) → Result A Refusal → Type 0
-FiltersBy view text (Ok filter) = AsksFilter text (view filter)
-FiltersBy view text (Err (refusal.BadWords fault)) = IsFilterWrong text fault
-FiltersBy view text (Err refusal.NoMemory) = Unit {0}
-FiltersBy view text (Err (refusal.BadLine n fault)) = ⊥
-FiltersBy view text (Err refusal.InputTooLong) = ⊥
-FiltersBy view text (Err refusal.ReadFault) = ⊥
-FiltersBy view text (Err refusal.WriteFault) = ⊥
+abbrev pub IsWrongFilter : Option (List ℕ) → BadWords → Type 0
+IsWrongFilter text bad = ((bad ≡ BadFilter) × LacksFilter text) ⊎ ((bad ≡ BadOrder) × HasUnsuited text)
 
-abbrev pub IsPathWrong : List ℕ → BadWords → Type 0
-IsPathWrong text BadPath = (steps : List Step) → IsPath text steps → ⊥
-IsPathWrong text BadFilter = ⊥
-IsPathWrong text BadOrder = ⊥
-IsPathWrong text Usage = ⊥
-IsPathWrong text RepeatedPath = ⊥
+abbrev pub IsWrongPath : List ℕ → BadWords → Type 0
+IsWrongPath text bad = (bad ≡ BadPath) × ((steps : List Step) → IsPath text steps → ⊥)
 
-abbrev pub PathBy : {A : Type 0} → (A → List Step) → List ℕ → Result A Refusal → Type 0
-PathBy view text (Ok path) = IsPath text (view path)
-PathBy view text (Err (refusal.BadWords fault)) = IsPathWrong text fault
-PathBy view text (Err refusal.NoMemory) = Unit {0}
-PathBy view text (Err (refusal.BadLine n fault)) = ⊥
-PathBy view text (Err refusal.InputTooLong) = ⊥
-PathBy view text (Err refusal.ReadFault) = ⊥
-PathBy view text (Err refusal.WriteFault) = ⊥
-
-abbrev pub ArePathsWrong : List (List ℕ) → BadWords → Type 0
-ArePathsWrong texts BadPath = LacksPath texts
-ArePathsWrong texts BadFilter = ⊥
-ArePathsWrong texts BadOrder = ⊥
-ArePathsWrong texts Usage = ⊥
-ArePathsWrong texts RepeatedPath = ⊥
-
-abbrev pub PathsOf : {A : Type 0} → (A → List (List Step)) → List (List ℕ) → Result A Refusal → Type 0
-PathsOf view texts (Ok paths) = ArePaths texts (view paths)
-PathsOf view texts (Err (refusal.BadWords fault)) = ArePathsWrong texts fault
-PathsOf view texts (Err refusal.NoMemory) = Unit {0}
-PathsOf view texts (Err (refusal.BadLine n fault)) = ⊥
-PathsOf view texts (Err refusal.InputTooLong) = ⊥
-PathsOf view texts (Err refusal.ReadFault) = ⊥
-PathsOf view texts (Err refusal.WriteFault) = ⊥
+abbrev pub AreWrongPaths : List (List ℕ) → BadWords → Type 0
+AreWrongPaths texts bad = (bad ≡ BadPath) × LacksPath texts

@@ -1,7 +1,16 @@
 //! The top call.
+//!
+//! | Module | What it holds |
+//! |---|---|
+//! | `top` | `vstore`: words in, a status out |
+//! | `command` | `Command`: what words ask for |
+//! | `words` | what is wrong with words; the query of a filter's text and paths' texts |
+//! | `scan` | a query's lines over the documents of an input |
+//! | `command_error` | `CommandError`: why a call ends with another status than 0, with its line |
 #![tactic(auto)]
 
-mod refusal;
+mod command;
+mod command_error;
 mod scan;
 mod top;
 mod words;

@@ -11,7 +11,7 @@ ghost use Rattle.query_tree.specs.Asked.{asked};
 ghost use Rattle.variant_store.specs.Scan.{Scans};
 ghost use Rattle.variant_store.specs.Gathered.{Drains, DrainsSome, GathersLine, Turns, GoesOn, GathersKnown, StillExtends, IsOfTurn, IsOfScan, cuts_off};
 
-use crate::refusal::Refusal;
+use crate::command_error::CommandError;
 use exact_json::{DocFault, LineFault, Lines, Next, read_line};
 use outside::{Sink, SinkError, Source, write_all};
 use path_query::{Query, print_row};
@@ -34,10 +34,10 @@ pub enum Turn {
 }
 
 /// Writes what was gathered. After an `Err` a prefix of it was written.
-fn drain<O: Sink>(pending: &mut Vec<u8>, out: &mut O) -> Result<(), Refusal>
+fn drain<O: Sink>(pending: &mut Vec<u8>, out: &mut O) -> Result<(), CommandError>
     ensures drains { Drains (O.written out.old) (O.written out.new) pending.old.items pending.new.items result }
-    ensures cause { HasCauseAt (O.faults out.old) (O.faults out.new) (IsErrOf result Refusal.WriteFault) }
-    ensures calm { (IsErrOf result Refusal.WriteFault → ⊥) → O.faults out.new ≡ O.faults out.old }
+    ensures cause { HasCauseAt (O.faults out.old) (O.faults out.new) (IsErrOf result CommandError.WriteFault) }
+    ensures calm { (IsErrOf result CommandError.WriteFault → ⊥) → O.faults out.new ≡ O.faults out.old }
     ensures steady { OnOk result (O.faults out.new ≡ O.faults out.old) }
 {
     match write_all(out, pending.as_slice()) {
@@ -45,16 +45,16 @@ fn drain<O: Sink>(pending: &mut Vec<u8>, out: &mut O) -> Result<(), Refusal>
             pending.clear();
             Ok(())
         }
-        Err(SinkError::Failed) => Err(Refusal::WriteFault),
-        Err(SinkError::NoMemory) => Err(Refusal::NoMemory),
+        Err(SinkError::Failed) => Err(CommandError::WriteFault),
+        Err(SinkError::NoMemory) => Err(CommandError::NoMemory),
     }
 }
 
 /// Writes what was gathered once it is a piece.
-fn drain_piece<O: Sink>(pending: &mut Vec<u8>, out: &mut O) -> Result<(), Refusal>
+fn drain_piece<O: Sink>(pending: &mut Vec<u8>, out: &mut O) -> Result<(), CommandError>
     ensures drains { DrainsSome (O.written out.old) (O.written out.new) pending.old.items pending.new.items result }
-    ensures cause { HasCauseAt (O.faults out.old) (O.faults out.new) (IsErrOf result Refusal.WriteFault) }
-    ensures calm { (IsErrOf result Refusal.WriteFault → ⊥) → O.faults out.new ≡ O.faults out.old }
+    ensures cause { HasCauseAt (O.faults out.old) (O.faults out.new) (IsErrOf result CommandError.WriteFault) }
+    ensures calm { (IsErrOf result CommandError.WriteFault → ⊥) → O.faults out.new ≡ O.faults out.old }
     ensures steady { OnOk result (O.faults out.new ≡ O.faults out.old) }
 {
     if pending.len() < PIECE {
@@ -70,16 +70,16 @@ fn gather(
     line: u64,
     bytes: &[u8],
     pending: &mut Vec<u8>,
-) -> Result<(), Refusal>
+) -> Result<(), CommandError>
     ensures { GathersLine (asked query.now) line bytes.now pending.old.items pending.new.items result }
 {
     match read_line(alloc, bytes) {
         Ok(tree) => match print_row(pending, query, Some(&tree)) {
             Ok(()) => Ok(()),
-            Err(NoMemory) => Err(Refusal::NoMemory),
+            Err(NoMemory) => Err(CommandError::NoMemory),
         },
-        Err(DocFault::NoMemory) => Err(Refusal::NoMemory),
-        Err(fault) => Err(Refusal::BadLine { line, fault }),
+        Err(DocFault::NoMemory) => Err(CommandError::NoMemory),
+        Err(fault) => Err(CommandError::BadLine { line, fault }),
     }
 }
 
@@ -90,30 +90,30 @@ fn take_turn<I: Source>(
     lines: &mut Lines,
     input: &mut I,
     pending: &mut Vec<u8>,
-) -> Result<Turn, Refusal>
+) -> Result<Turn, CommandError>
     requires { lines.old.kept ≡ nothing }
     ensures turns { Turns (asked query.now) (I.left input.old) (I.left input.new) lines.old lines.new pending.old.items pending.new.items result }
     ensures goes_on { GoesOn lines.old lines.new result }
     ensures answers { IsOfTurn result }
-    ensures cause { HasCauseAt (I.faults input.old) (I.faults input.new) (IsErrOf result Refusal.ReadFault) }
-    ensures calm { (IsErrOf result Refusal.ReadFault → ⊥) → I.faults input.new ≡ I.faults input.old }
+    ensures cause { HasCauseAt (I.faults input.old) (I.faults input.new) (IsErrOf result CommandError.ReadFault) }
+    ensures calm { (IsErrOf result CommandError.ReadFault → ⊥) → I.faults input.new ≡ I.faults input.old }
     ensures steady { IfOk result (λ turn. I.faults input.new ≡ I.faults input.old) }
 {
     match lines.next(input) {
         Ok(Next::Line { number, bytes }) => {
             match gather(alloc, query, number, bytes.as_slice(), pending) {
                 Ok(()) => Ok(Turn::More),
-                Err(refusal) => Err(refusal),
+                Err(error) => Err(error),
             }
         }
-        Ok(Next::TooLong { number }) => Err(Refusal::BadLine {
+        Ok(Next::TooLong { number }) => Err(CommandError::BadLine {
             line: number,
             fault: DocFault::LineTooLong,
         }),
         Ok(Next::End) => Ok(Turn::Ended),
-        Err(LineFault::InputTooLong) => Err(Refusal::InputTooLong),
-        Err(LineFault::ReadFault) => Err(Refusal::ReadFault),
-        Err(LineFault::NoMemory) => Err(Refusal::NoMemory),
+        Err(LineFault::InputTooLong) => Err(CommandError::InputTooLong),
+        Err(LineFault::ReadFault) => Err(CommandError::ReadFault),
+        Err(LineFault::NoMemory) => Err(CommandError::NoMemory),
     }
 }
 
@@ -127,39 +127,40 @@ fn walk<I: Source, O: Sink>(
     input: &mut I,
     pending: &mut Vec<u8>,
     out: &mut O,
-) -> Result<(), Refusal>
+) -> Result<(), CommandError>
     requires start { lines.old ≡ record { number = 0; room = max_input; held = []; kept = nothing } }
     requires none { pending.old.items ≡ [] }
     ensures gathers { GathersKnown (asked query.now) (I.left input.old) (I.left input.new) (O.written out.old) (O.written out.new) pending.new.items result }
     ensures extends { StillExtends (O.written out.old) (O.written out.new) result }
     ensures answers { IsOfScan result }
-    ensures read_cause { HasCauseAt (I.faults input.old) (I.faults input.new) (IsErrOf result Refusal.ReadFault) }
-    ensures read_calm { (IsErrOf result Refusal.ReadFault → ⊥) → I.faults input.new ≡ I.faults input.old }
-    ensures write_cause { HasCauseAt (O.faults out.old) (O.faults out.new) (IsErrOf result Refusal.WriteFault) }
-    ensures calm { (IsErrOf result Refusal.WriteFault → ⊥) → O.faults out.new ≡ O.faults out.old }
+    ensures read_cause { HasCauseAt (I.faults input.old) (I.faults input.new) (IsErrOf result CommandError.ReadFault) }
+    ensures read_calm { (IsErrOf result CommandError.ReadFault → ⊥) → I.faults input.new ≡ I.faults input.old }
+    ensures write_cause { HasCauseAt (O.faults out.old) (O.faults out.new) (IsErrOf result CommandError.WriteFault) }
+    ensures calm { (IsErrOf result CommandError.WriteFault → ⊥) → O.faults out.new ≡ O.faults out.old }
     ensures steady { OnOk result ((I.faults input.new ≡ I.faults input.old) × (O.faults out.new ≡ O.faults out.old)) }
 {
     'turns: loop {
         match drain_piece(pending, out) {
             Ok(()) => {}
-            Err(refusal) => return Err(refusal),
+            Err(error) => return Err(error),
         }
         match take_turn(alloc, query, lines, input, pending) {
             Ok(Turn::More) => {}
             Ok(Turn::Ended) => return Ok(()),
-            Err(refusal) => return Err(refusal),
+            Err(error) => return Err(error),
         }
     }
 }
 
 /// Whether the output was cut off, so that nothing more is written.
-fn cuts_off(done: Result<(), Refusal>) -> bool
+fn cuts_off(done: Result<(), CommandError>) -> bool
     ensures { result ≡ cuts_off done }
 {
     match done {
         Ok(()) => false,
-        Err(Refusal::BadLine { .. } | Refusal::InputTooLong | Refusal::ReadFault) => false,
-        Err(Refusal::WriteFault | Refusal::NoMemory | Refusal::BadWords(_)) => true,
+        Err(CommandError::BadLine { .. } | CommandError::InputTooLong | CommandError::ReadFault) =>
+            false,
+        Err(CommandError::WriteFault | CommandError::NoMemory | CommandError::BadWords(_)) => true,
     }
 }
 
@@ -172,18 +173,18 @@ pub fn scan<I: Source, O: Sink>(
     query: &Query,
     input: &mut I,
     out: &mut O,
-) -> Result<(), Refusal>
+) -> Result<(), CommandError>
     ensures writes { Scans (asked query.now) (I.left input.old) (I.left input.new) (O.written out.old) (O.written out.new) result }
     ensures answers { IsOfScan result }
-    ensures read_cause { HasCauseAt (I.faults input.old) (I.faults input.new) (IsErrOf result Refusal.ReadFault) }
-    ensures read_calm { (IsErrOf result Refusal.ReadFault → ⊥) → (IsErrOf result Refusal.WriteFault → ⊥) → (IsErrOf result Refusal.NoMemory → ⊥) → I.faults input.new ≡ I.faults input.old }
-    ensures write_cause { HasCauseAt (O.faults out.old) (O.faults out.new) (IsErrOf result Refusal.WriteFault) }
-    ensures calm { (IsErrOf result Refusal.WriteFault → ⊥) → O.faults out.new ≡ O.faults out.old }
+    ensures read_cause { HasCauseAt (I.faults input.old) (I.faults input.new) (IsErrOf result CommandError.ReadFault) }
+    ensures read_calm { (IsErrOf result CommandError.ReadFault → ⊥) → (IsErrOf result CommandError.WriteFault → ⊥) → (IsErrOf result CommandError.NoMemory → ⊥) → I.faults input.new ≡ I.faults input.old }
+    ensures write_cause { HasCauseAt (O.faults out.old) (O.faults out.new) (IsErrOf result CommandError.WriteFault) }
+    ensures calm { (IsErrOf result CommandError.WriteFault → ⊥) → O.faults out.new ≡ O.faults out.old }
     ensures steady { OnOk result ((I.faults input.new ≡ I.faults input.old) × (O.faults out.new ≡ O.faults out.old)) }
 {
     let mut lines = match Lines::new(alloc, INPUT_LIMIT) {
         Ok(lines) => lines,
-        Err(_) => return Err(Refusal::NoMemory),
+        Err(_) => return Err(CommandError::NoMemory),
     };
     let mut pending = Vec::new(alloc);
     let done = walk(alloc, query, &mut lines, input, &mut pending, out);
@@ -192,6 +193,6 @@ pub fn scan<I: Source, O: Sink>(
     }
     match drain(&mut pending, out) {
         Ok(()) => done,
-        Err(refusal) => Err(refusal),
+        Err(error) => Err(error),
     }
 }

@@ -4,9 +4,9 @@ ghost use Rattle.std.specs.Prelude.{◌≡◌, OnOk, IsErrOf};
 ghost use Rattle.outside.specs.Devices.{HasCauseAt};
 ghost use Rattle.variant_store.specs.Top.{Runs, RunsScan, IsAnswer, Completes};
 
-use crate::refusal::Refusal;
+use crate::command::{Command, asked_command};
+use crate::command_error::{CommandError, refuse};
 use crate::scan::scan;
-use crate::words::asked_query;
 use outside::{Sink, Source};
 use std::alloc::Global;
 use vs_bytes::Text;
@@ -19,17 +19,17 @@ fn run<I: Source, O: Sink>(
     words: &[Word],
     input: &mut I,
     out: &mut O,
-) -> Result<(), Refusal>
+) -> Result<(), CommandError>
     ensures runs { Runs words.now (I.left input.old) (I.left input.new) (O.written out.old) (O.written out.new) ((input.new ≡ input.old) × (out.new ≡ out.old)) result }
-    ensures read_cause { HasCauseAt (I.faults input.old) (I.faults input.new) (IsErrOf result Refusal.ReadFault) }
-    ensures read_calm { (IsErrOf result Refusal.ReadFault → ⊥) → (IsErrOf result Refusal.WriteFault → ⊥) → (IsErrOf result Refusal.NoMemory → ⊥) → I.faults input.new ≡ I.faults input.old }
-    ensures write_cause { HasCauseAt (O.faults out.old) (O.faults out.new) (IsErrOf result Refusal.WriteFault) }
-    ensures calm { (IsErrOf result Refusal.WriteFault → ⊥) → O.faults out.new ≡ O.faults out.old }
+    ensures read_cause { HasCauseAt (I.faults input.old) (I.faults input.new) (IsErrOf result CommandError.ReadFault) }
+    ensures read_calm { (IsErrOf result CommandError.ReadFault → ⊥) → (IsErrOf result CommandError.WriteFault → ⊥) → (IsErrOf result CommandError.NoMemory → ⊥) → I.faults input.new ≡ I.faults input.old }
+    ensures write_cause { HasCauseAt (O.faults out.old) (O.faults out.new) (IsErrOf result CommandError.WriteFault) }
+    ensures calm { (IsErrOf result CommandError.WriteFault → ⊥) → O.faults out.new ≡ O.faults out.old }
     ensures steady { OnOk result ((I.faults input.new ≡ I.faults input.old) × (O.faults out.new ≡ O.faults out.old)) }
 {
-    match asked_query(alloc, words) {
-        Ok(query) => scan(alloc, &query, input, out),
-        Err(refusal) => Err(refusal),
+    match asked_command(alloc, words) {
+        Ok(Command::Scan(query)) => scan(alloc, &query, input, out),
+        Err(fault) => Err(refuse(fault)),
     }
 }
 
@@ -65,6 +65,6 @@ pub fn vstore<I: Source, O: Sink, E: Sink>(
 {
     match run(alloc, words, input, out) {
         Ok(()) => 0,
-        Err(refusal) => refusal.report(alloc, err),
+        Err(error) => error.report(alloc, err),
     }
 }

@@ -1,62 +1,85 @@
-//! What the words of a call ask for.
+//! What is wrong with words, and the query that a filter's text and paths' texts ask for.
 
-ghost use Rattle.std.specs.Prelude.{◌≡◌, map};
+ghost use Rattle.std.specs.Prelude.{◌≡◌, ℕ, List, map};
 ghost use Rattle.std.specs.List.{list_any};
 ghost use Rattle.std.specs.Str.{bytes_eq};
 ghost use Rattle.std.specs.Option.{option_map};
-ghost use Rattle.vs_bytes.specs.Names.{repeats};
+ghost use Rattle.query_tree.specs.Asked.{asked};
 ghost use Rattle.query_tree.specs.PathText.{path_text};
 ghost use Rattle.query_tree.specs.View.{steps_of, formula_of};
+ghost use Rattle.path_grammar.specs.Grammar.{IsPath};
 ghost use Rattle.command_words.specs.Reading.{given};
-ghost use Rattle.variant_store.specs.Words.{Asks, ScanAsks, FiltersBy, PathBy, PathsOf, is_repeated};
+ghost use Rattle.variant_store.specs.Words.{GiveScan, AsksFilter, ArePaths, IsAsked, AskWrongly, Reads, IsWrongFilter, IsWrongPath, AreWrongPaths, is_repeated};
 
-use crate::refusal::{BadWords, Refusal};
-use command_words::{ScanWords, WordFault, scan_words};
+use command_words::ScanWords;
 use path_query::{Filter, Path, PathList, Query, TextFault, parse_filter, parse_path};
 use std::alloc::Global;
-use vs_bytes::Text;
+
+/// What is wrong with the words of a call. It is found before any device is called, in this order.
+#[derive(Clone, Copy, PartialEq, Eq, Debug, Drop)]
+pub enum BadWords {
+    /// They name no command, or aren't those that it takes.
+    Usage,
+    /// The filter isn't in its grammar.
+    BadFilter,
+    /// Some relation of the filter doesn't suit its literal.
+    BadOrder,
+    /// A path isn't in its grammar.
+    BadPath,
+    /// Two paths have one canonical text.
+    RepeatedPath,
+}
+
+/// Why words gave no command.
+#[derive(Clone, Copy, PartialEq, Eq, Debug, Drop)]
+pub enum WordsFault {
+    /// They ask for nothing.
+    Wrong(BadWords),
+    /// There was no memory to read them.
+    NoMemory,
+}
 
 /// The filter of a text, if there is one.
-fn asked_filter(alloc: Global, text: Option<&str>) -> Result<Option<Filter>, Refusal>
-    ensures { FiltersBy (option_map formula_of) (option_map (λ t. t.now) text.entry) result }
+fn asked_filter(alloc: Global, text: Option<&str>) -> Result<Option<Filter>, WordsFault>
+    ensures { Reads (λ filter. AsksFilter (option_map (λ t. t.now) text.entry) (option_map formula_of filter)) (IsWrongFilter (option_map (λ t. t.now) text.entry)) result }
 {
     let Some(text) = text else {
         return Ok(None);
     };
     match parse_filter(alloc, text) {
         Ok(filter) => Ok(Some(filter)),
-        Err(TextFault::BadFilter) => Err(Refusal::BadWords(BadWords::BadFilter)),
-        Err(TextFault::BadOrder) => Err(Refusal::BadWords(BadWords::BadOrder)),
-        Err(TextFault::BadPath) => Err(Refusal::BadWords(BadWords::BadPath)),
-        Err(TextFault::NoMemory) => Err(Refusal::NoMemory),
+        Err(TextFault::BadFilter) => Err(WordsFault::Wrong(BadWords::BadFilter)),
+        Err(TextFault::BadOrder) => Err(WordsFault::Wrong(BadWords::BadOrder)),
+        Err(TextFault::BadPath) => Err(WordsFault::Wrong(BadWords::BadPath)),
+        Err(TextFault::NoMemory) => Err(WordsFault::NoMemory),
     }
 }
 
 /// The path of a text.
-fn asked_path(alloc: Global, text: &str) -> Result<Path, Refusal>
-    ensures { PathBy steps_of text.now result }
+fn asked_path(alloc: Global, text: &str) -> Result<Path, WordsFault>
+    ensures { Reads (λ path. IsPath text.now (steps_of path)) (IsWrongPath text.now) result }
 {
     match parse_path(alloc, text) {
         Ok(path) => Ok(path),
-        Err(TextFault::BadPath) => Err(Refusal::BadWords(BadWords::BadPath)),
-        Err(TextFault::BadFilter) => Err(Refusal::BadWords(BadWords::BadFilter)),
-        Err(TextFault::BadOrder) => Err(Refusal::BadWords(BadWords::BadOrder)),
-        Err(TextFault::NoMemory) => Err(Refusal::NoMemory),
+        Err(TextFault::BadPath) => Err(WordsFault::Wrong(BadWords::BadPath)),
+        Err(TextFault::BadFilter) => Err(WordsFault::Wrong(BadWords::BadFilter)),
+        Err(TextFault::BadOrder) => Err(WordsFault::Wrong(BadWords::BadOrder)),
+        Err(TextFault::NoMemory) => Err(WordsFault::NoMemory),
     }
 }
 
 /// The paths of texts, in order.
-fn asked_paths(alloc: Global, texts: &[&str]) -> Result<PathList, Refusal>
-    ensures { PathsOf (map steps_of) (map (λ t. t.now) texts.now) result }
+fn asked_paths(alloc: Global, texts: &[&str]) -> Result<PathList, WordsFault>
+    ensures { Reads (λ paths. ArePaths (map (λ t. t.now) texts.now) (map steps_of paths)) (AreWrongPaths (map (λ t. t.now) texts.now)) result }
 {
     let mut paths = PathList::new(alloc);
     for text in texts {
         match asked_path(alloc, text) {
             Ok(path) => match paths.push(path) {
                 Ok(()) => {}
-                Err(_) => return Err(Refusal::NoMemory),
+                Err(_) => return Err(WordsFault::NoMemory),
             },
-            Err(refusal) => return Err(refusal),
+            Err(fault) => return Err(fault),
         }
     }
     Ok(paths)
@@ -94,37 +117,21 @@ fn is_repeated(paths: &[Path]) -> bool
     false
 }
 
-/// The query that words behind `scan` ask for.
-fn scan_query(alloc: Global, words: &ScanWords<'_>) -> Result<Query, Refusal>
-    ensures { ScanAsks (given words.now) result }
+/// The query of a filter's text and paths' texts.
+#[tactic(auto, using(crate::proofs::ReadWords::filter_refused))]
+pub fn asked_query(alloc: Global, texts: &ScanWords<'_>) -> Result<Query, WordsFault>
+    ensures { (words : List (List ℕ)) → GiveScan words (given texts.now) → Reads (λ query. IsAsked (given texts.now) (asked query)) (AskWrongly words) result }
 {
-    let filter = match asked_filter(alloc, words.filter) {
+    let filter = match asked_filter(alloc, texts.filter) {
         Ok(filter) => filter,
-        Err(refusal) => return Err(refusal),
+        Err(fault) => return Err(fault),
     };
-    let paths = match asked_paths(alloc, words.paths.as_slice()) {
+    let paths = match asked_paths(alloc, texts.paths.as_slice()) {
         Ok(paths) => paths,
-        Err(refusal) => return Err(refusal),
+        Err(fault) => return Err(fault),
     };
     if is_repeated(paths.as_slice()) {
-        return Err(Refusal::BadWords(BadWords::RepeatedPath));
+        return Err(WordsFault::Wrong(BadWords::RepeatedPath));
     }
     Ok(Query { filter, paths })
-}
-
-/// The query that the words of a call ask for.
-pub fn asked_query(alloc: Global, words: &[Text]) -> Result<Query, Refusal>
-    ensures { Asks words.now result }
-{
-    let Some((command, others)) = words.split_first() else {
-        return Err(Refusal::BadWords(BadWords::Usage));
-    };
-    if command.as_bytes() != b"scan".as_slice() {
-        return Err(Refusal::BadWords(BadWords::Usage));
-    }
-    match scan_words(alloc, others) {
-        Ok(given) => scan_query(alloc, &given),
-        Err(WordFault::Usage) => Err(Refusal::BadWords(BadWords::Usage)),
-        Err(WordFault::NoMemory) => Err(Refusal::NoMemory),
-    }
 }

@@ -22,7 +22,7 @@ returns-in-Ok-clause-turns g c =
 pub returns-in-Ok-Line-clause-turns : goal.returns-in-Ok-Line-clause-turns
 returns-in-Ok-Line-clause-turns g c =
     let line = c.in-Ok-Line in
-    let gathers = subst (λ (bytes : List ℕ). GathersLine (asked c.args.query.now) line.number bytes c.args.pending.now.items c.gather.new.pending.items (Err c.in-Err.refusal)) c.as_slice.ensures c.in-Err.ensures in
+    let gathers = subst (λ (bytes : List ℕ). GathersLine (asked c.args.query.now) line.number bytes c.args.pending.now.items c.gather.new.pending.items (Err c.in-Err.error)) c.as_slice.ensures c.in-Err.ensures in
     turn_refused _ _ _ _ _ _ _ line.number line.bytes _ (rw line.field-0-is at (line.ensures.comes c.requires)) gathers
 
 pub returns-in-Err-ReadFault-clause-turns : goal.returns-in-Err-ReadFault-clause-turns

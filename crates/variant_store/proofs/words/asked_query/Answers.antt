@@ -1,10 +1,10 @@
-use Rattle.std.proofs.Common.{sym}
-use Rattle.variant_store.proofs.ReadWords.{asks, are_scan}
+use Rattle.std.proofs.Common.{subst, List, ℕ, map, Bor}
+use Rattle.command_words.specs.Reading.{given}
+use Rattle.variant_store.specs.Words.{Refuses, AreWrongPaths}
+use Rattle.variant_store.proofs.ReadWords.{paths_refused}
 use Rattle.variant_store.proofs.words.asked_query.Goals as goal
 
-pub returns-in-Ok : goal.returns-in-Ok
-returns-in-Ok c = asks _ _ _ (record {
-  rest = c.in-Some.others.now;
-  are_scan = are_scan _ c.in-Some.command.now c.as_bytes.result.now c.as_slice.result.now c.in-Some.others.now c.in-Some.ensures.cases.0 c.as_bytes.ensures c.as_slice.ensures (sym c.if-ne.ensures);
-  are_given = c.in-Ok.ensures;
-}) c.scan_query.ensures
+pub returns-in-Err-asked_paths : goal.returns-in-Err-asked_paths
+returns-in-Err-asked_paths c = λ words give.
+    let wrong = subst (λ (texts : List (Bor (List ℕ))). Refuses (AreWrongPaths (map (λ t. t.now) texts)) c.in-Err-asked_paths.fault) c.as_slice.ensures.value c.in-Err-asked_paths.ensures in
+    paths_refused words (given c.args.texts.now) c.in-Err-asked_paths.fault give (_, c.in-Ok.ensures) wrong

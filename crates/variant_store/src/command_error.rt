@@ -1,30 +1,16 @@
 //! Why a call ends with another status than 0, and the line that says so.
 
 ghost use Rattle.std.specs.Prelude.{◌≡◌, IfOk, string_bytes};
-ghost use Rattle.variant_store.specs.Report.{status_of, message_of, IsReported};
+ghost use Rattle.variant_store.specs.Report.{status_of, message_of, words_error, IsReported};
 
+use crate::words::{BadWords, WordsFault};
 use exact_json::DocFault;
 use outside::{Sink, SinkError, write_all};
 use std::alloc::{AllocError, Global};
 
-/// What is wrong with the words of a call. It is found before any device is called, in this order.
-#[derive(Clone, Copy, PartialEq, Eq, Debug, Drop)]
-pub enum BadWords {
-    /// They name no command, or aren't those that it takes.
-    Usage,
-    /// The filter isn't in its grammar.
-    BadFilter,
-    /// Some relation of the filter doesn't suit its literal.
-    BadOrder,
-    /// A path isn't in its grammar.
-    BadPath,
-    /// Two paths have one canonical text.
-    RepeatedPath,
-}
-
 /// Why a call ends with another status than 0.
 #[derive(Clone, Copy, PartialEq, Eq, Debug, Drop)]
-pub enum Refusal {
+pub enum CommandError {
     /// The words ask for nothing.
     BadWords(BadWords),
     /// A line that isn't blank has a fault. Lines are counted from 1.
@@ -39,9 +25,19 @@ pub enum Refusal {
     NoMemory,
 }
 
+/// How a call ends whose words gave no command.
+pub fn refuse(fault: WordsFault) -> CommandError
+    ensures { result ≡ words_error fault }
+{
+    match fault {
+        WordsFault::Wrong(bad) => CommandError::BadWords(bad),
+        WordsFault::NoMemory => CommandError::NoMemory,
+    }
+}
+
 /// The line for words that ask for nothing.
 fn bad_words_message(alloc: Global, fault: BadWords) -> Result<String, AllocError>
-    ensures { IfOk result (λ message. string_bytes message ≡ message_of (Refusal.BadWords fault)) }
+    ensures { IfOk result (λ message. string_bytes message ≡ message_of (CommandError.BadWords fault)) }
 {
     match fault {
         BadWords::Usage => String::from_str(alloc, "vstore: usage\n"),
@@ -54,7 +50,7 @@ fn bad_words_message(alloc: Global, fault: BadWords) -> Result<String, AllocErro
 
 /// The line for a line that has a fault.
 fn bad_line_message(alloc: Global, line: u64, fault: DocFault) -> Result<String, AllocError>
-    ensures { IfOk result (λ message. string_bytes message ≡ message_of (Refusal.BadLine line fault)) }
+    ensures { IfOk result (λ message. string_bytes message ≡ message_of (CommandError.BadLine line fault)) }
 {
     let mut message = format!(in alloc; "vstore: line {line}: ")?;
     message.push_str(fault.name())?;
@@ -62,17 +58,17 @@ fn bad_line_message(alloc: Global, line: u64, fault: DocFault) -> Result<String,
     Ok(message)
 }
 
-impl Refusal {
+impl CommandError {
     /// The status that the program ends with.
     pub fn status(self) -> u8
         ensures { result ≡ status_of self }
     {
         match self {
-            Refusal::BadWords(_) => 2,
-            Refusal::BadLine { .. } | Refusal::InputTooLong => 3,
-            Refusal::ReadFault => 5,
-            Refusal::WriteFault => 6,
-            Refusal::NoMemory => 7,
+            CommandError::BadWords(_) => 2,
+            CommandError::BadLine { .. } | CommandError::InputTooLong => 3,
+            CommandError::ReadFault => 5,
+            CommandError::WriteFault => 6,
+            CommandError::NoMemory => 7,
         }
     }
 
@@ -81,12 +77,12 @@ impl Refusal {
         ensures { IfOk result (λ message. string_bytes message ≡ message_of self) }
     {
         match self {
-            Refusal::BadWords(fault) => bad_words_message(alloc, fault),
-            Refusal::BadLine { line, fault } => bad_line_message(alloc, line, fault),
-            Refusal::InputTooLong => String::from_str(alloc, "vstore: input too long\n"),
-            Refusal::ReadFault => String::from_str(alloc, "vstore: read fault\n"),
-            Refusal::WriteFault => String::from_str(alloc, "vstore: write fault\n"),
-            Refusal::NoMemory => String::from_str(alloc, "vstore: no memory\n"),
+            CommandError::BadWords(fault) => bad_words_message(alloc, fault),
+            CommandError::BadLine { line, fault } => bad_line_message(alloc, line, fault),
+            CommandError::InputTooLong => String::from_str(alloc, "vstore: input too long\n"),
+            CommandError::ReadFault => String::from_str(alloc, "vstore: read fault\n"),
+            CommandError::WriteFault => String::from_str(alloc, "vstore: write fault\n"),
+            CommandError::NoMemory => String::from_str(alloc, "vstore: no memory\n"),
         }
     }
 
@@ -98,12 +94,12 @@ impl Refusal {
         ensures { IsReported self result (E.written err.old) (E.written err.new) (E.faults err.old) (E.faults err.new) }
     {
         let Ok(message) = self.message(alloc) else {
-            return Refusal::NoMemory.status();
+            return CommandError::NoMemory.status();
         };
         match write_all(err, message.as_bytes()) {
             Ok(()) => self.status(),
             Err(SinkError::Failed) => self.status(),
-            Err(SinkError::NoMemory) => Refusal::NoMemory.status(),
+            Err(SinkError::NoMemory) => CommandError::NoMemory.status(),
         }
     }
 }

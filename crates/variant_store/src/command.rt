@@ -1,0 +1,45 @@
+//! The command that words ask for.
+
+ghost use Rattle.std.specs.Prelude.{◌≡◌, ◌∷◌, codes};
+ghost use Rattle.variant_store.specs.Command.{AskFor, command_of};
+ghost use Rattle.variant_store.specs.Words.{AskWrongly, Reads};
+
+use crate::words::{BadWords, WordsFault, asked_query};
+use command_words::{WordFault, scan_words};
+use path_query::Query;
+use std::alloc::Global;
+use vs_bytes::Text;
+
+/// What a call is asked to do.
+#[derive(Drop)]
+pub enum Command {
+    /// To print a query's lines over the documents of the input.
+    Scan(Query),
+}
+
+/// The scan that the words after `scan` ask for.
+fn asked_scan(alloc: Global, words: &[Text]) -> Result<Command, WordsFault>
+    ensures { Reads (λ command. AskFor (codes "scan" ∷ words.now) (command_of command)) (AskWrongly (codes "scan" ∷ words.now)) result }
+{
+    match scan_words(alloc, words) {
+        Ok(given) => match asked_query(alloc, &given) {
+            Ok(query) => Ok(Command::Scan(query)),
+            Err(fault) => Err(fault),
+        },
+        Err(WordFault::Usage) => Err(WordsFault::Wrong(BadWords::Usage)),
+        Err(WordFault::NoMemory) => Err(WordsFault::NoMemory),
+    }
+}
+
+/// The command that the words of a call ask for.
+pub fn asked_command(alloc: Global, words: &[Text]) -> Result<Command, WordsFault>
+    ensures { Reads (λ command. AskFor words.now (command_of command)) (AskWrongly words.now) result }
+{
+    let Some((name, others)) = words.split_first() else {
+        return Err(WordsFault::Wrong(BadWords::Usage));
+    };
+    if name.as_bytes() == b"scan".as_slice() {
+        return asked_scan(alloc, others);
+    }
+    Err(WordsFault::Wrong(BadWords::Usage))
+}
