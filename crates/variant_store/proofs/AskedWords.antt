@@ -1,5 +1,5 @@
--- Words that ask for a query aren't wrong.
-use Rattle.std.proofs.Common.{◌≡◌, refl, sym, subst, ℕ, zero, suc, ◌<◌, List, [], ◌∷◌, length, get_or, arith, true, false, Option, None, Some}
+-- Words that ask for a query aren't wrong, and they ask for one.
+use Rattle.std.proofs.Common.{◌≡◌, ◌∙◌, refl, sym, ap, subst, ℕ, zero, suc, ◌<◌, List, [], ◌∷◌, length, get_or, arith, true, false, Option, None, Some}
 use Rattle.command_words.specs.Scan.{Given, scan_words}
 use Rattle.query_tree.specs.Asked.{Asked}
 use Rattle.query_tree.specs.Formula.{Formula, is_suited}
@@ -82,3 +82,20 @@ not_wrong words asked BadPath ask wrong = all_are_paths wrong.0.paths asked.path
 not_wrong words asked RepeatedPath ask wrong =
     let is_asked = asked_given words asked wrong.0 ask wrong.1 in
     are_unlike wrong.0.paths asked.paths is_asked.are_paths is_asked.unlike wrong.2.1
+
+-- and words ask for one query
+
+same_filter : (given : Option (List ℕ)) (f g : Option Formula) → AsksFilter given f → AsksFilter given g → f ≡ g
+same_filter None None None h k = refl
+same_filter None None (Some g) h k = absurd k
+same_filter None (Some f) g h k = absurd h
+same_filter (Some text) None g h k = absurd h
+same_filter (Some text) (Some f) None h k = absurd k
+same_filter (Some text) (Some f) (Some g) h k = ap Some (filter_one text f g h.0 k.0)
+
+pub one_asked : (words : List (List ℕ)) (asked other : Asked) → AskScan words asked → AskScan words other → asked ≡ other
+one_asked words asked other ask also =
+    let is_asked = asked_given words asked also.0 ask also.1 in
+    let filter = same_filter also.0.filter asked.filter other.filter is_asked.asks_filter also.2.asks_filter in
+    let paths = same_paths also.0.paths asked.paths other.paths is_asked.are_paths also.2.are_paths in
+    ap (λ f. record { filter = f; paths = asked.paths }) filter ∙ ap (λ ps. record { filter = other.filter; paths = ps }) paths

@@ -1,38 +1,55 @@
 -- Admitted input and no fault of a device give status 0, or 7.
-use Rattle.std.proofs.Common.{◌≡◌, inl, inr, ℕ, List, refl, Option, Some, None, Result, Ok, Err}
-use Rattle.outside.specs.Devices.{HasCauseAt}
-use Rattle.std.specs.Result.{IsErrOf}
+use Rattle.std.proofs.Common.{◌≡◌, ◌⊎◌, inl, inr, subst, ℕ, List, Result, Ok, Err}
+use Rattle.outside.specs.Devices.{Device, Fails}
+use Rattle.outside.specs.declared.sink.SinkError.{SinkError}
+use Rattle.outside.specs.declared.sink.SinkError.TheVariants as sink
 use Rattle.json_tree.specs.Json.{Json}
-use Rattle.json_lines.specs.Cut.{lines_of}
-use Rattle.exact_json.specs.Documents.{Ending, at_end, HasDocuments, max_input}
-use Rattle.exact_json.proofs.Walks.{walks_once}
+use Rattle.json_documents.specs.Documents.{Ending, at_end, HasDocuments}
+use Rattle.json_documents.specs.declared.faults.InputFault.TheVariants as why
+use Rattle.json_documents.specs.declared.faults.Stop.{Stop}
+use Rattle.json_documents.specs.declared.faults.Stop.TheVariants.{Input, Taker}
+use Rattle.json_documents.proofs.Walks.{walks_once}
+use Rattle.query_tree.specs.Asked.{Asked}
 use Rattle.variant_store.proofs.AskedWords.{not_wrong}
-use Rattle.variant_store.specs.Report.{IsReported}
-use Rattle.variant_store.specs.Top.{Runs, Ends, Completes}
+use Rattle.variant_store.specs.Command.{Command, scan, AskFor}
+use Rattle.variant_store.specs.Ends.{stream_end, Counts}
+use Rattle.variant_store.specs.Scan.{Scans}
+use Rattle.variant_store.specs.Top.{Does, Runs, Ends, IsAdmitted, Completes}
+use Rattle.variant_store.specs.Words.{AskWrongly}
+use Rattle.variant_store.specs.World.{World}
+use Rattle.variant_store.specs.declared.words.BadWords.{BadWords}
 use Rattle.variant_store.specs.declared.command_error.CommandError.{CommandError}
 use Rattle.variant_store.specs.declared.command_error.CommandError.TheVariants as error
 
 one_ending : (input : List ℕ) (ds es : List Json) (a b : Ending) → HasDocuments input ds a → HasDocuments input es b → a ≡ b
-one_ending input ds es a b f g = (walks_once (lines_of max_input input) 0 ds es a b f g).ending
+one_ending input ds es a b f g = (walks_once _ 0 ds es a b f g).ending
 
-pub completes : (words : List (List ℕ)) (input left old new : Option (List ℕ)) (U : Type 0) (reads reads_now writes writes_now : ℕ) (err_old err_new : Option (List ℕ)) (faults faults_now status : ℕ) → (done : Result (Unit {0}) CommandError)
-    → Runs words input left old new U done → HasCauseAt reads reads_now (IsErrOf done error.ReadFault) → HasCauseAt writes writes_now (IsErrOf done error.WriteFault) → Ends done status err_old err_new faults faults_now
-    → Completes words input reads reads_now writes writes_now status
-completes words None left old new U reads reads_now writes writes_now err_old err_new faults faults_now status done r p q e = tt
-completes words (Some i) left old new U reads reads_now writes writes_now err_old err_new faults faults_now status (Ok u) r p q e = λ asked ds ask has no_read no_write. inl e.0
-completes words (Some i) left old new U reads reads_now writes writes_now err_old err_new faults faults_now status (Err (error.BadWords fault)) r p q e = λ asked ds ask has no_read no_write. absurd (not_wrong words asked fault ask r.0)
-completes words (Some i) left old new U reads reads_now writes writes_now err_old err_new faults faults_now status (Err (error.BadLine n fault)) r p q e = λ asked ds ask has no_read no_write.
-    let scans = r.2 in
-    let same = one_ending i _ ds _ at_end scans.1 has in
-    cc
-completes words (Some i) left old new U reads reads_now writes writes_now err_old err_new faults faults_now status (Err error.InputTooLong) r p q e = λ asked ds ask has no_read no_write.
-    let scans = r.2 in
-    let same = one_ending i _ ds _ at_end scans.1 has in
-    cc
-completes words (Some i) left old new U reads reads_now writes writes_now err_old err_new faults faults_now status (Err error.ReadFault) r p q e = λ asked ds ask has no_read no_write. absurd (no_read (p.cause refl))
-completes words (Some i) left old new U reads reads_now writes writes_now err_old err_new faults faults_now status (Err error.WriteFault) r p q e = λ asked ds ask has no_read no_write. absurd (no_write (q.cause refl))
-completes words (Some i) left old new U reads reads_now writes writes_now err_old err_new faults faults_now status (Err error.NoMemory) r p q e = λ asked ds ask has no_read no_write. inr (seven e)
+-- a call that ends without memory has status 7
+seven : (status : ℕ) (err err_now : Device) → Ends (Err error.NoMemory) status err err_now → status ≡ 7
+seven status err err_now (inl h) = h.0
+seven status err err_now (inr h) = h.0
+
+-- no ending of a scan but its end, and want of memory, is left
+completes_scan : (asked : Asked) (before after : World) (err err_now : Device) (status : ℕ) (end : Result (Unit {0}) (Stop SinkError)) → Scans asked before after end → Counts before after (stream_end end) → Ends (stream_end end) status err err_now
+    → IsAdmitted (scan asked) before → (Fails before.input after.input → ⊥) → (Fails before.out after.out → ⊥) → (status ≡ 0) ⊎ (status ≡ 7)
+completes_scan asked before after err err_now status (Ok u) s k e a no_read no_write = inl e.0
+completes_scan asked before after err err_now status (Err (Input (why.BadLine n fault))) s k e a no_read no_write = let same = one_ending a.0 _ a.1 _ at_end (s.are_of a.0 a.2) a.3 in cc
+completes_scan asked before after err err_now status (Err (Input why.InputTooLong)) s k e a no_read no_write = let same = one_ending a.0 _ a.1 _ at_end (s.are_of a.0 a.2) a.3 in cc
+completes_scan asked before after err err_now status (Err (Input why.ReadFault)) s k e a no_read no_write = absurd (no_read k.0)
+completes_scan asked before after err err_now status (Err (Input why.NoMemory)) s k e a no_read no_write = inr (seven status err err_now e)
+completes_scan asked before after err err_now status (Err (Taker sink.Failed)) s k e a no_read no_write = absurd (no_write k.1)
+completes_scan asked before after err err_now status (Err (Taker sink.NoMemory)) s k e a no_read no_write = inr (seven status err err_now e)
+
+-- by the command that was done, and the one that the words ask for
+completes_command : (words : List (List ℕ)) (done_so wanted : Command) (before after : World) (err err_now : Device) (status : ℕ) (done : Result (Unit {0}) CommandError) → AskFor words done_so → AskFor words wanted → Does done_so before after done
+    → Counts before after done → Ends done status err err_now → IsAdmitted wanted before → (Fails before.input after.input → ⊥) → (Fails before.out after.out → ⊥) → (status ≡ 0) ⊎ (status ≡ 7)
+completes_command words (scan asked) (scan other) before after err err_now status done f g does k e a no_read no_write =
+    completes_scan asked before after err err_now status does.0 does.2 (subst (λ (d : Result (Unit {0}) CommandError). Counts before after d) does.1 k) (subst (λ (d : Result (Unit {0}) CommandError). Ends d status err err_now) does.1 e) a no_read no_write
+
+pub completes : (words : List (List ℕ)) (before after : World) (err err_now : Device) (status : ℕ) (done : Result (Unit {0}) CommandError) → Runs words before after done → Counts before after done → Ends done status err err_now → Completes words before after status
+completes words before after err err_now status done (inl works) k e = λ wanted ask a no_read no_write. completes_command words works.command wanted before after err err_now status done works.asked ask works.does k e a no_read no_write
+completes words before after err err_now status done (inr (inl refused)) k e = λ wanted ask a no_read no_write. absurd (not_asked words wanted refused.bad ask refused.wrong)
   where
-    seven : IsReported error.NoMemory status err_old err_new faults faults_now → status ≡ 7
-    seven (inl h) = h.0
-    seven (inr h) = h.0
+    not_asked : (words : List (List ℕ)) (wanted : Command) (bad : BadWords) → AskFor words wanted → AskWrongly words bad → ⊥
+    not_asked words (scan asked) bad ask wrong = not_wrong words asked bad ask wrong
+completes words before after err err_now status done (inr (inr lacking)) k e = λ wanted ask a no_read no_write. inr (seven status err err_now (subst (λ (d : Result (Unit {0}) CommandError). Ends d status err err_now) lacking.is_told e))

@@ -9,7 +9,7 @@ use Rattle.query_tree.specs.declared.step.Step.{Step}
 use Rattle.query_tree.specs.declared.path.Path.{Path}
 use Rattle.query_tree.specs.View.{steps_of}
 use Rattle.path_grammar.specs.Grammar.{IsPath}
-use Rattle.variant_store.specs.Words.{GiveScan, ArePaths, IsFiltered, AskWrongly, Refuses, IsWrongFilter, IsWrongPath, AreWrongPaths}
+use Rattle.variant_store.specs.Words.{GiveScan, ArePaths, IsFiltered, AskWrongly, IsRefused, IsWrongFilter, IsWrongPath, AreWrongPaths}
 use Rattle.variant_store.specs.declared.words.BadWords.{BadWords}
 use Rattle.variant_store.specs.declared.words.WordsFault.{WordsFault}
 use Rattle.variant_store.specs.declared.words.WordsFault.TheVariants.{Wrong, NoMemory}
@@ -44,19 +44,19 @@ paths_more texts i d old new path less grown h p =
     rw (grown, take_next texts i d less, map-append, map-append) (paths_push (texts_of (take i texts)) (map steps_of old) (get_or texts i d).now (steps_of path) h p)
 
 -- one of the texts is no path
-pub path_wrong : (texts : List (Bor (List ℕ))) (i : ℕ) (d : Bor (List ℕ)) (fault : WordsFault) → i < length texts → Refuses (IsWrongPath (get_or texts i d).now) fault → Refuses (AreWrongPaths (texts_of texts)) fault
+pub path_wrong : (texts : List (Bor (List ℕ))) (i : ℕ) (d : Bor (List ℕ)) (fault : WordsFault) → i < length texts → IsRefused (IsWrongPath (get_or texts i d).now) fault → IsRefused (AreWrongPaths (texts_of texts)) fault
 path_wrong texts i d (Wrong bad) less h =
     (h.0, record { text = (get_or texts i d).now; is_given = (i, omega (less, length_texts texts, arith), text_at texts i d (get_or texts i d).now less); is_none = h.1 })
 path_wrong texts i d NoMemory less h = tt
 
 -- what is wrong with the filter or the paths is wrong with the words
 
-pub filter_refused : (words : List (List ℕ)) (given : Given) (fault : WordsFault) → GiveScan words given → Refuses (IsWrongFilter given.filter) fault → Refuses (AskWrongly words) fault
+pub filter_refused : (words : List (List ℕ)) (given : Given) (fault : WordsFault) → GiveScan words given → IsRefused (IsWrongFilter given.filter) fault → IsRefused (AskWrongly words) fault
 filter_refused words given (Wrong bad) g (inl h) = subst (λ (b : BadWords). AskWrongly words b) (sym h.0) (given, g, h.1)
 filter_refused words given (Wrong bad) g (inr h) = subst (λ (b : BadWords). AskWrongly words b) (sym h.0) (given, g, h.1)
 filter_refused words given NoMemory g h = tt
 
-pub paths_refused : (words : List (List ℕ)) (given : Given) (fault : WordsFault) → GiveScan words given → IsFiltered given → Refuses (AreWrongPaths given.paths) fault → Refuses (AskWrongly words) fault
+pub paths_refused : (words : List (List ℕ)) (given : Given) (fault : WordsFault) → GiveScan words given → IsFiltered given → IsRefused (AreWrongPaths given.paths) fault → IsRefused (AskWrongly words) fault
 paths_refused words given (Wrong bad) g filtered h = subst (λ (b : BadWords). AskWrongly words b) (sym h.0) (given, g, (filtered, h.1))
 paths_refused words given NoMemory g filtered h = tt
 

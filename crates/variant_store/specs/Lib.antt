@@ -1,7 +1,11 @@
 pub mod Answer
+pub mod Beginning
 pub mod Command
-pub mod Gathered
+pub mod Ends
+pub mod Gathering
+pub mod InMemory
 pub mod Report
 pub mod Scan
 pub mod Top
 pub mod Words
+pub mod World

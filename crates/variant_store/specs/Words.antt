@@ -57,7 +57,7 @@ pub record HasUnsuited (given : Option (List ℕ)) : Type 0 where
   pub is_filter : IsFilter text formula
   pub is_unsuited : is_suited formula ≡ false
 
--- behind a filter, some text that is no path,
+-- after a filter, some text that is no path,
 pub record LacksPath (texts : List (List ℕ)) : Type 0 where
   pub text : List ℕ
   pub is_given : Contains texts text
@@ -88,15 +88,15 @@ AskWrongly words BadOrder = GiveWrong words (λ given. HasUnsuited given.filter)
 AskWrongly words BadPath = GiveWrong words (λ given. IsFiltered given × LacksPath given.paths)
 AskWrongly words RepeatedPath = GiveWrong words (λ given. IsFiltered given × HasRepeated given.paths)
 
--- What the readers of words answer: what is asked, or what is wrong. Want of memory says nothing.
+-- What the readers of words answer: what is asked, or what is wrong. That there was no memory says nothing.
 
-abbrev pub Refuses : (BadWords → Type 0) → WordsFault → Type 0
-Refuses IsBad (Wrong bad) = IsBad bad
-Refuses IsBad NoMemory = Unit {0}
+abbrev pub IsRefused : (BadWords → Type 0) → WordsFault → Type 0
+IsRefused IsBad (Wrong bad) = IsBad bad
+IsRefused IsBad NoMemory = Unit {0}
 
 abbrev pub Reads : {A : Type 0} → (A → Type 0) → (BadWords → Type 0) → Result A WordsFault → Type 0
 Reads IsRight IsBad (Ok a) = IsRight a
-Reads IsRight IsBad (Err fault) = Refuses IsBad fault
+Reads IsRight IsBad (Err fault) = IsRefused IsBad fault
 
 -- what may be wrong with a filter's text alone, with a path's text, and with paths' texts
 

@@ -1,10 +1,11 @@
 //! Why a call ends with another status than 0, and the line that says so.
 
 ghost use Rattle.std.specs.Prelude.{◌≡◌, IfOk, string_bytes};
-ghost use Rattle.variant_store.specs.Report.{status_of, message_of, words_error, IsReported};
+ghost use Rattle.variant_store.specs.Ends.{words_error, input_error, output_error, stream_end};
+ghost use Rattle.variant_store.specs.Report.{status_of, message_of, IsReported};
 
 use crate::words::{BadWords, WordsFault};
-use exact_json::DocFault;
+use json_documents::{DocFault, InputFault, Stop};
 use outside::{Sink, SinkError, write_all};
 use std::alloc::{AllocError, Global};
 
@@ -32,6 +33,39 @@ pub fn refuse(fault: WordsFault) -> CommandError
     match fault {
         WordsFault::Wrong(bad) => CommandError::BadWords(bad),
         WordsFault::NoMemory => CommandError::NoMemory,
+    }
+}
+
+/// How a call ends that stops at its input.
+fn input_error(fault: InputFault) -> CommandError
+    ensures { result ≡ input_error fault }
+{
+    match fault {
+        InputFault::BadLine { line, fault } => CommandError::BadLine { line, fault },
+        InputFault::InputTooLong => CommandError::InputTooLong,
+        InputFault::ReadFault => CommandError::ReadFault,
+        InputFault::NoMemory => CommandError::NoMemory,
+    }
+}
+
+/// How a call ends that stops at its output.
+fn output_error(fault: SinkError) -> CommandError
+    ensures { result ≡ output_error fault }
+{
+    match fault {
+        SinkError::Failed => CommandError::WriteFault,
+        SinkError::NoMemory => CommandError::NoMemory,
+    }
+}
+
+/// How a call ends that prints something of each document.
+pub fn end_stream(done: Result<(), Stop<SinkError>>) -> Result<(), CommandError>
+    ensures { result ≡ stream_end done }
+{
+    match done {
+        Ok(()) => Ok(()),
+        Err(Stop::Input(fault)) => Err(input_error(fault)),
+        Err(Stop::Taker(fault)) => Err(output_error(fault)),
     }
 }
 
@@ -91,7 +125,7 @@ impl CommandError {
     /// A fault of the error output changes no status; where there is no memory for the line, the
     /// status is 7.
     pub fn report<E: Sink>(self, alloc: Global, err: &mut E) -> u8
-        ensures { IsReported self result (E.written err.old) (E.written err.new) (E.faults err.old) (E.faults err.new) }
+        ensures { IsReported self result (E.seen err.old) (E.seen err.new) }
     {
         let Ok(message) = self.message(alloc) else {
             return CommandError::NoMemory.status();

@@ -1,11 +1,15 @@
 //! The top call: words in, a status out.
 
-ghost use Rattle.std.specs.Prelude.{◌≡◌, OnOk, IsErrOf};
-ghost use Rattle.outside.specs.Devices.{HasCauseAt};
-ghost use Rattle.variant_store.specs.Top.{Runs, RunsScan, IsAnswer, Completes};
+ghost use Rattle.std.specs.Prelude.{◌≡◌, Ok, Err};
+ghost use Rattle.json_documents.specs.Input.{OfInput, IsWithinLimit};
+ghost use Rattle.variant_store.specs.World.{world_of};
+ghost use Rattle.variant_store.specs.Ends.{Counts};
+ghost use Rattle.variant_store.specs.Top.{Runs, Works, IsAnswer, Completes};
+ghost use Rattle.variant_store.specs.declared.words.BadWords.{BadWords};
+ghost use Rattle.variant_store.specs.declared.command_error.CommandError.TheVariants as error;
 
 use crate::command::{Command, asked_command};
-use crate::command_error::{CommandError, refuse};
+use crate::command_error::{CommandError, end_stream, refuse};
 use crate::scan::scan;
 use outside::{Sink, Source};
 use std::alloc::Global;
@@ -20,15 +24,13 @@ fn run<I: Source, O: Sink>(
     input: &mut I,
     out: &mut O,
 ) -> Result<(), CommandError>
-    ensures runs { Runs words.now (I.left input.old) (I.left input.new) (O.written out.old) (O.written out.new) ((input.new ≡ input.old) × (out.new ≡ out.old)) result }
-    ensures read_cause { HasCauseAt (I.faults input.old) (I.faults input.new) (IsErrOf result CommandError.ReadFault) }
-    ensures read_calm { (IsErrOf result CommandError.ReadFault → ⊥) → (IsErrOf result CommandError.WriteFault → ⊥) → (IsErrOf result CommandError.NoMemory → ⊥) → I.faults input.new ≡ I.faults input.old }
-    ensures write_cause { HasCauseAt (O.faults out.old) (O.faults out.new) (IsErrOf result CommandError.WriteFault) }
-    ensures calm { (IsErrOf result CommandError.WriteFault → ⊥) → O.faults out.new ≡ O.faults out.old }
-    ensures steady { OnOk result ((I.faults input.new ≡ I.faults input.old) × (O.faults out.new ≡ O.faults out.old)) }
+    ensures runs { Runs words.now (world_of (I.seen input.old) (O.seen out.old)) (world_of (I.seen input.new) (O.seen out.new)) result }
+    ensures counts { Counts (world_of (I.seen input.old) (O.seen out.old)) (world_of (I.seen input.new) (O.seen out.new)) result }
+    ensures bounded { OfInput (I.seen input.old).bytes (λ bytes. IsWithinLimit bytes (I.seen input.new).bytes) }
+    ensures untouched { (bad : BadWords) → result ≡ Err (error.BadWords bad) → (input.new ≡ input.old) × (out.new ≡ out.old) }
 {
     match asked_command(alloc, words) {
-        Ok(Command::Scan(query)) => scan(alloc, &query, input, out),
+        Ok(Command::Scan(query)) => end_stream(scan(alloc, &query, input, out)),
         Err(fault) => Err(refuse(fault)),
     }
 }
@@ -45,10 +47,10 @@ fn run<I: Source, O: Sink>(
 /// | 2 | `vstore: usage` | the words aren't those of a command |
 /// | 2 | `vstore: bad filter`, `vstore: bad order`, `vstore: bad path`, `vstore: repeated path` | the filter isn't in its grammar; a relation in it doesn't suit its literal; a path isn't in its grammar; two paths have one canonical text |
 /// | 3 | `vstore: line N: FAULT` | line N is the first that has a fault ([`DocFault`]); all lines before it are answered |
-/// | 3 | `vstore: input too long` | more than 2^40 bytes came |
-/// | 5 | `vstore: read fault` | a read failed; the lines before are answered |
-/// | 6 | `vstore: write fault` | a write to `out` failed |
-/// | 7 | `vstore: no memory` | an allocation was refused |
+/// | 3 | `vstore: input too long` | more than 2^40 bytes came; all lines before the one that the limit falls into are answered |
+/// | 5 | `vstore: read fault` | a read failed; all lines whose LF had come are answered |
+/// | 6 | `vstore: write fault` | a write to `out` failed; what it gained is a prefix of the answer |
+/// | 7 | `vstore: no memory` | an allocation was refused; where that was for a line of the input or its tree, all lines before it are answered |
 ///
 /// A fault of `err` changes no status; where there is no memory for its line the status is 7.
 pub fn vstore<I: Source, O: Sink, E: Sink>(
@@ -58,10 +60,11 @@ pub fn vstore<I: Source, O: Sink, E: Sink>(
     out: &mut O,
     err: &mut E,
 ) -> u8
-    ensures answer { IsAnswer words.now (I.left input.old) (I.left input.new) (O.written out.old) (O.written out.new) ((input.new ≡ input.old) × (out.new ≡ out.old)) (I.faults input.old) (I.faults input.new) (O.faults out.old) (O.faults out.new) (E.written err.old) (E.written err.new) (E.faults err.old) (E.faults err.new) result }
-    ensures complete { Completes words.now (I.left input.old) (I.faults input.old) (I.faults input.new) (O.faults out.old) (O.faults out.new) result }
-    ensures steady { result ≡ 0 → (I.faults input.new ≡ I.faults input.old) × (O.faults out.new ≡ O.faults out.old) }
-    ensures zero { result ≡ 0 → RunsScan words.now (I.left input.old) (I.left input.new) (O.written out.old) (O.written out.new) (Ok tt) }
+    ensures answer { IsAnswer words.now (world_of (I.seen input.old) (O.seen out.old)) (world_of (I.seen input.new) (O.seen out.new)) (E.seen err.old) (E.seen err.new) result }
+    ensures zero { result ≡ 0 → Works words.now (world_of (I.seen input.old) (O.seen out.old)) (world_of (I.seen input.new) (O.seen out.new)) (Ok tt) }
+    ensures complete { Completes words.now (world_of (I.seen input.old) (O.seen out.old)) (world_of (I.seen input.new) (O.seen out.new)) result }
+    ensures untouched { result ≡ 2 → (input.new ≡ input.old) × (out.new ≡ out.old) }
+    ensures bounded { OfInput (I.seen input.old).bytes (λ bytes. IsWithinLimit bytes (I.seen input.new).bytes) }
 {
     match run(alloc, words, input, out) {
         Ok(()) => 0,

@@ -1,0 +1,93 @@
+-- What a call says of known bytes, over objects in memory.
+use Rattle.std.proofs.Common.{◌≡◌, ◌∙◌, ◌⊎◌, inl, inr, refl, sym, subst, ℕ, List, [], Result, Ok, Err, arith}
+use Rattle.outside.specs.Devices.{Device}
+use Rattle.outside.specs.Memory.{Given, Taken, source_device, sink_device}
+use Rattle.outside.specs.declared.sink.SinkError.{SinkError}
+use Rattle.outside.specs.declared.sink.SinkError.TheVariants as sink
+use Rattle.json_documents.specs.Documents.{at_end}
+use Rattle.json_documents.specs.declared.faults.InputFault.TheVariants as why
+use Rattle.json_documents.specs.declared.faults.Stop.{Stop}
+use Rattle.json_documents.specs.declared.faults.Stop.TheVariants.{Input, Taker}
+use Rattle.query_tree.specs.Asked.{Asked}
+use Rattle.variant_store.proofs.AskedWords.{one_asked}
+use Rattle.variant_store.specs.Command.{Command, scan, AskFor}
+use Rattle.variant_store.specs.Ends.{stream_end}
+use Rattle.variant_store.specs.InMemory.{Prints, IsNamed, StopsAtLine, StopsAtLimit}
+use Rattle.variant_store.specs.Report.{Reports, IsReported, status_of}
+use Rattle.variant_store.specs.Scan.{Scans}
+use Rattle.variant_store.specs.Top.{Does, Works, Runs, Ends, IsAnswer}
+use Rattle.variant_store.specs.Words.{AskScan}
+use Rattle.variant_store.specs.World.{World, world_of}
+use Rattle.variant_store.specs.declared.command_error.CommandError.{CommandError}
+use Rattle.variant_store.specs.declared.command_error.CommandError.TheVariants as error
+
+abbrev in_memory : Given → Taken → World
+in_memory input out = world_of (source_device input) (sink_device out)
+
+-- words that ask for a scan have this one done
+scanned : (words : List (List ℕ)) (asked : Asked) (before after : World) (done : Result (Unit {0}) CommandError) → AskScan words asked → Works words before after done → Does (scan asked) before after done
+scanned words asked before after done ask works = by works.command works.asked works.does
+  where
+    by : (command : Command) → AskFor words command → Does command before after done → Does (scan asked) before after done
+    by (scan other) is_other does = subst (λ (q : Asked). Does (scan q) before after done) (one_asked words other asked is_other ask) does
+
+-- at status 0
+
+pub record Whole (asked : Asked) (input left : Given) (out out_now : Taken) : Type 0 where
+  pub prints : Prints asked input at_end out out_now
+  pub at_end : left.left ≡ []
+
+pub whole : (words : List (List ℕ)) (asked : Asked) (input left : Given) (out out_now : Taken) → AskScan words asked → Works words (in_memory input out) (in_memory left out_now) (Ok tt) → Whole asked input left out out_now
+whole words asked input left out out_now ask works =
+    let does = scanned words asked (in_memory input out) (in_memory left out_now) (Ok tt) ask works in
+    by does.0 does.1 does.2
+  where
+    by : (end : Result (Unit {0}) (Stop SinkError)) → Ok tt ≡ stream_end end → Scans asked (in_memory input out) (in_memory left out_now) end → Whole asked input left out out_now
+    by (Ok u) e s =
+        let gives = s.are_of input.left refl in
+        let none = gives.1 in
+        record { prints = record { documents = s.documents; are_all = gives.0; answers = s.answers }; at_end = cc }
+    by (Err (Input fault)) e s = cc
+    by (Err (Taker fault)) e s = cc
+
+-- at status 3
+
+named : (error : CommandError) (err err_now : Taken) → Reports error (sink_device err) (sink_device err_now) → IsNamed error err err_now
+named error err err_now (inl h) = inl h.0
+named error err err_now (inr h) = inr h.1.rose
+
+-- the status is that of the error, and its line was written
+reported : (error : CommandError) (status : ℕ) (err err_now : Device) → status ≡ 3 → IsReported error status err err_now → (status_of error ≡ 3) × Reports error err err_now
+reported error status err err_now three (inl h) = (sym h.0 ∙ three, h.1)
+reported error status err err_now three (inr h) = let seven = h.0 in absurd (omega (arith, seven, three))
+
+abbrev StopsAt : Asked → Given → Taken → Taken → Taken → Taken → Type 0
+StopsAt asked input out out_now err err_now = StopsAtLine asked input out out_now err err_now ⊎ StopsAtLimit asked input out out_now err err_now
+
+stopped : (asked : Asked) (input left : Given) (out out_now err err_now : Taken) (status : ℕ) (end : Result (Unit {0}) (Stop SinkError)) → status ≡ 3 → Scans asked (in_memory input out) (in_memory left out_now) end
+    → Ends (stream_end end) status (sink_device err) (sink_device err_now) → StopsAt asked input out out_now err err_now
+stopped asked input left out out_now err err_now status (Ok u) three s e = let zero_is = e.0 in absurd (omega (arith, zero_is, three))
+stopped asked input left out out_now err err_now status (Err (Input (why.BadLine n fault))) three s e =
+    let told = reported (error.BadLine n fault) status (sink_device err) (sink_device err_now) three e in
+    inl (record { line = n; fault = fault; prints = record { documents = s.documents; are_all = s.are_of input.left refl; answers = s.answers }; is_named = named (error.BadLine n fault) err err_now told.1 })
+stopped asked input left out out_now err err_now status (Err (Input why.InputTooLong)) three s e =
+    let told = reported error.InputTooLong status (sink_device err) (sink_device err_now) three e in
+    inr (record { prints = record { documents = s.documents; are_all = s.are_of input.left refl; answers = s.answers }; is_named = named error.InputTooLong err err_now told.1 })
+stopped asked input left out out_now err err_now status (Err (Input why.ReadFault)) three s e = let told = (reported error.ReadFault status (sink_device err) (sink_device err_now) three e).0 in absurd (omega (arith, told))
+stopped asked input left out out_now err err_now status (Err (Input why.NoMemory)) three s e = let told = (reported error.NoMemory status (sink_device err) (sink_device err_now) three e).0 in absurd (omega (arith, told))
+stopped asked input left out out_now err err_now status (Err (Taker sink.Failed)) three s e = let told = (reported error.WriteFault status (sink_device err) (sink_device err_now) three e).0 in absurd (omega (arith, told))
+stopped asked input left out out_now err err_now status (Err (Taker sink.NoMemory)) three s e = let told = (reported error.NoMemory status (sink_device err) (sink_device err_now) three e).0 in absurd (omega (arith, told))
+
+pub stops : (words : List (List ℕ)) (asked : Asked) (input left : Given) (out out_now err err_now : Taken) (status : ℕ) → AskScan words asked → status ≡ 3 → IsAnswer words (in_memory input out) (in_memory left out_now) (sink_device err) (sink_device err_now) status
+    → StopsAt asked input out out_now err err_now
+stops words asked input left out out_now err err_now status ask three a = by a.runs
+  where
+    ended : (done : Result (Unit {0}) CommandError) → a.done ≡ done → Ends done status (sink_device err) (sink_device err_now)
+    ended done e = subst (λ (d : Result (Unit {0}) CommandError). Ends d status (sink_device err) (sink_device err_now)) e a.ends
+
+    by : Runs words (in_memory input out) (in_memory left out_now) a.done → StopsAt asked input out out_now err err_now
+    by (inl works) =
+        let does = scanned words asked (in_memory input out) (in_memory left out_now) a.done ask works in
+        stopped asked input left out out_now err err_now status does.0 three does.2 (ended (stream_end does.0) does.1)
+    by (inr (inl refused)) = let told = (reported (error.BadWords refused.bad) status (sink_device err) (sink_device err_now) three (ended (Err (error.BadWords refused.bad)) refused.is_told)).0 in absurd (omega (arith, told))
+    by (inr (inr lacking)) = let told = (reported error.NoMemory status (sink_device err) (sink_device err_now) three (ended (Err error.NoMemory) lacking.is_told)).0 in absurd (omega (arith, told))

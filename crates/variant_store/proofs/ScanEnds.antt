@@ -1,0 +1,44 @@
+-- Lemmas on how a scan ends.
+use Rattle.std.proofs.Common.{◌≡◌, ℕ, List, [], ◌++◌, sym, subst, Option, append-nil}
+use Rattle.std.specs.Borrow.{Bor}
+use Rattle.outside.specs.Devices.{Device, AppendsPrefix}
+use Rattle.outside.specs.Output.{Output, Breaks}
+use Rattle.outside.specs.declared.sink.SinkError.{SinkError}
+use Rattle.outside.proofs.Sending.{sends_breaks}
+use Rattle.json_tree.specs.Json.{Json}
+use Rattle.json_documents.specs.Documents.{Ending, at_end, at_line, at_limit, HasDocuments}
+use Rattle.json_documents.specs.Input.{Begins, GivesAll, Stops}
+use Rattle.json_documents.specs.Taking.{TookAll}
+use Rattle.json_documents.specs.declared.faults.InputFault.{InputFault}
+use Rattle.json_documents.specs.declared.faults.InputFault.TheVariants as why
+use Rattle.query_tree.specs.Asked.{asked}
+use Rattle.query_tree.specs.declared.query.Query.{Query}
+use Rattle.variant_store.specs.Answer.{answer_over}
+use Rattle.variant_store.specs.Gathering.{Gathers}
+use Rattle.variant_store.specs.Scan.{AnswersPart}
+use Rattle.variant_store.specs.World.{world_of}
+
+-- what is given of an input are first documents of it
+begins_all : (input : List ℕ) (documents : List Json) (ending : Ending) → HasDocuments input documents ending → Begins input documents
+begins_all input documents ending has = ([], ending, subst (λ (ds : List Json). HasDocuments input ds ending) (sym (append-nil documents)) has)
+
+pub gives_begins : (input : List ℕ) (left : Option (List ℕ)) (documents : List Json) → GivesAll input left documents → Begins input documents
+gives_begins input left documents g = begins_all input documents at_end g.0
+
+pub stops_begins : (input : List ℕ) (left : Option (List ℕ)) (documents : List Json) (fault : InputFault) → Stops input left documents fault → Begins input documents
+stops_begins input left documents (why.BadLine n fault) s = begins_all input documents (at_line n fault) s
+stops_begins input left documents why.InputTooLong s = begins_all input documents at_limit s
+stops_begins input left documents why.ReadFault s = s.begins
+stops_begins input left documents why.NoMemory s = s
+
+-- a prefix of what was gathered is written
+pub scan_cut : (query query_now : Bor Query) (i j : Device) (a b c : Output) (fault : SinkError) (AreOf : List ℕ → List Json → Type 0) → a.pending ≡ [] → TookAll (λ ds. Gathers query query_now a b ds) i.bytes AreOf
+    → ((input : List ℕ) (ds : List Json) → AreOf input ds → Begins input ds) → Breaks b c [] fault → AnswersPart (asked query.now) (world_of i a.device) (world_of j c.device)
+scan_cut query query_now i j a b c fault AreOf empty took begins broken =
+    let answer = answer_over (asked query.now) took.documents in
+    let part : Breaks a c (answer ++ []) fault = sends_breaks a b c answer [] fault took.took.sends broken in
+    record {
+      documents = took.documents;
+      are_first = λ input known. begins input took.documents (took.known input known);
+      answers = subst (λ (s : List ℕ). AppendsPrefix a.device.bytes c.device.bytes s) (append-nil answer) (subst (λ (p : List ℕ). AppendsPrefix a.device.bytes c.device.bytes (p ++ (answer ++ []))) empty part.part);
+    }

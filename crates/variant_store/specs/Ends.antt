@@ -1,0 +1,45 @@
+-- How a call ends: what its parts answer, as the answer of the call, and which device failed.
+use Rattle.std.specs.Prelude.{◌≤◌, Result, Ok, Err}
+use Rattle.outside.specs.Devices.{IsCalm, Fails}
+use Rattle.outside.specs.declared.sink.SinkError.{SinkError}
+use Rattle.outside.specs.declared.sink.SinkError.TheVariants as sink
+use Rattle.json_documents.specs.declared.faults.InputFault.{InputFault}
+use Rattle.json_documents.specs.declared.faults.InputFault.TheVariants as input
+use Rattle.json_documents.specs.declared.faults.Stop.{Stop}
+use Rattle.json_documents.specs.declared.faults.Stop.TheVariants.{Input, Taker}
+use Rattle.variant_store.specs.World.{World, AreCalm}
+use Rattle.variant_store.specs.declared.words.WordsFault.{WordsFault}
+use Rattle.variant_store.specs.declared.words.WordsFault.TheVariants as words
+use Rattle.variant_store.specs.declared.command_error.CommandError.{CommandError}
+use Rattle.variant_store.specs.declared.command_error.CommandError.TheVariants.{BadWords, BadLine, InputTooLong, ReadFault, WriteFault, NoMemory}
+
+-- words that give no command
+abbrev pub words_error : WordsFault → CommandError
+words_error (words.Wrong bad) = BadWords bad
+words_error words.NoMemory = NoMemory
+
+abbrev pub input_error : InputFault → CommandError
+input_error (input.BadLine line fault) = BadLine line fault
+input_error input.InputTooLong = InputTooLong
+input_error input.ReadFault = ReadFault
+input_error input.NoMemory = NoMemory
+
+abbrev pub output_error : SinkError → CommandError
+output_error sink.Failed = WriteFault
+output_error sink.NoMemory = NoMemory
+
+-- a command that prints something of each document
+abbrev pub stream_end : Result (Unit {0}) (Stop SinkError) → Result (Unit {0}) CommandError
+stream_end (Ok u) = Ok u
+stream_end (Err (Input fault)) = Err (input_error fault)
+stream_end (Err (Taker fault)) = Err (output_error fault)
+
+-- which device failed: a failed read comes to light unless a write was refused after it
+abbrev pub Counts : World → World → Result (Unit {0}) CommandError → Type 0
+Counts before after (Ok u) = AreCalm before after
+Counts before after (Err (BadWords bad)) = AreCalm before after
+Counts before after (Err (BadLine line fault)) = AreCalm before after
+Counts before after (Err InputTooLong) = AreCalm before after
+Counts before after (Err ReadFault) = Fails before.input after.input × IsCalm before.out after.out
+Counts before after (Err WriteFault) = (before.input.faults ≤ after.input.faults) × Fails before.out after.out
+Counts before after (Err NoMemory) = (before.input.faults ≤ after.input.faults) × IsCalm before.out after.out
