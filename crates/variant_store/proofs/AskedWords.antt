@@ -4,10 +4,10 @@ use Rattle.command_words.specs.Scan.{Given, scan_words}
 use Rattle.query_tree.specs.Asked.{Asked}
 use Rattle.query_tree.specs.Formula.{Formula, is_suited}
 use Rattle.query_tree.specs.declared.step.Step.{Step}
-use Rattle.path_grammar.specs.Grammar.{IsPath}
-use Rattle.path_grammar.proofs.Texts.{paths_are_one}
-use Rattle.filter_grammar.specs.Grammar.{IsFilter}
-use Rattle.filter_grammar.proofs.Texts.{filter_one}
+use Rattle.path_parsing.specs.Grammar.{IsPath}
+use Rattle.path_parsing.proofs.Texts.{paths_are_one}
+use Rattle.filter_parsing.specs.Grammar.{IsFilter}
+use Rattle.filter_parsing.proofs.Texts.{filter_one}
 use Rattle.variant_store.specs.Words.{GiveScan, AsksFilter, ArePaths, is_repeated, IsAsked, LacksFilter, HasUnsuited, LacksPath, HasRepeated, AskScan, AskWrongly}
 use Rattle.variant_store.specs.declared.words.BadWords.{BadWords}
 use Rattle.variant_store.specs.declared.words.BadWords.TheVariants.{Usage, BadFilter, BadOrder, BadPath, RepeatedPath}

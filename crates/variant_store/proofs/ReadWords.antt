@@ -8,7 +8,7 @@ use Rattle.command_words.specs.Scan.{Given, scan_words}
 use Rattle.query_tree.specs.declared.step.Step.{Step}
 use Rattle.query_tree.specs.declared.path.Path.{Path}
 use Rattle.query_tree.specs.View.{steps_of}
-use Rattle.path_grammar.specs.Grammar.{IsPath}
+use Rattle.path_parsing.specs.Grammar.{IsPath}
 use Rattle.variant_store.specs.Words.{GiveScan, ArePaths, IsFiltered, AskWrongly, IsRefused, IsWrongFilter, IsWrongPath, AreWrongPaths}
 use Rattle.variant_store.specs.declared.words.BadWords.{BadWords}
 use Rattle.variant_store.specs.declared.words.WordsFault.{WordsFault}

@@ -11,7 +11,7 @@ use Rattle.json_documents.specs.Input.{Begins, GivesAll, Stops}
 use Rattle.json_documents.specs.Taking.{TookAll}
 use Rattle.json_documents.specs.declared.faults.InputFault.{InputFault}
 use Rattle.json_documents.specs.declared.faults.InputFault.TheVariants as why
-use Rattle.query_tree.specs.Asked.{asked}
+use Rattle.query_tree.specs.Asked.{query_of}
 use Rattle.query_tree.specs.declared.query.Query.{Query}
 use Rattle.variant_store.specs.Answer.{answer_over}
 use Rattle.variant_store.specs.Gathering.{Gathers}
@@ -33,9 +33,9 @@ stops_begins input left documents why.NoMemory s = s
 
 -- a prefix of what was gathered is written
 pub scan_cut : (query query_now : Bor Query) (i j : Device) (a b c : Output) (fault : SinkError) (AreOf : List ℕ → List Json → Type 0) → a.pending ≡ [] → TookAll (λ ds. Gathers query query_now a b ds) i.bytes AreOf
-    → ((input : List ℕ) (ds : List Json) → AreOf input ds → Begins input ds) → Breaks b c [] fault → AnswersPart (asked query.now) (world_of i a.device) (world_of j c.device)
+    → ((input : List ℕ) (ds : List Json) → AreOf input ds → Begins input ds) → Breaks b c [] fault → AnswersPart (query_of query.now) (world_of i a.device) (world_of j c.device)
 scan_cut query query_now i j a b c fault AreOf empty took begins broken =
-    let answer = answer_over (asked query.now) took.documents in
+    let answer = answer_over (query_of query.now) took.documents in
     let part : Breaks a c (answer ++ []) fault = sends_breaks a b c answer [] fault took.took.sends broken in
     record {
       documents = took.documents;

@@ -1,6 +1,6 @@
 -- What a call can be asked to do.
 use Rattle.std.specs.Prelude.{ℕ, List}
-use Rattle.query_tree.specs.Asked.{Asked, asked}
+use Rattle.query_tree.specs.Asked.{Asked, query_of}
 use Rattle.variant_store.specs.Words.{AskScan}
 use Rattle.variant_store.specs.declared.command.Command as code
 use Rattle.variant_store.specs.declared.command.Command.TheVariants as variant
@@ -15,4 +15,4 @@ AskFor words (scan asked) = AskScan words asked
 
 -- the command that the code holds
 abbrev pub command_of : code.Command → Command
-command_of (variant.Scan query) = scan (asked query)
+command_of (variant.Scan query) = scan (query_of query)

@@ -6,8 +6,8 @@ use Rattle.query_tree.specs.Asked.{Asked}
 use Rattle.query_tree.specs.Formula.{Formula, is_suited}
 use Rattle.query_tree.specs.PathText.{path_text}
 use Rattle.query_tree.specs.declared.step.Step.{Step}
-use Rattle.path_grammar.specs.Grammar.{IsPath}
-use Rattle.filter_grammar.specs.Grammar.{IsFilter}
+use Rattle.path_parsing.specs.Grammar.{IsPath}
+use Rattle.filter_parsing.specs.Grammar.{IsFilter}
 use Rattle.variant_store.specs.declared.words.BadWords.{BadWords}
 use Rattle.variant_store.specs.declared.words.BadWords.TheVariants.{Usage, BadFilter, BadOrder, BadPath, RepeatedPath}
 use Rattle.variant_store.specs.declared.words.WordsFault.{WordsFault}

@@ -1,6 +1,6 @@
 //! `scan`: a query's lines over the documents of an input.
 
-ghost use Rattle.query_tree.specs.Asked.{asked};
+ghost use Rattle.query_tree.specs.Asked.{query_of};
 ghost use Rattle.json_documents.specs.Input.{OfInput, IsWithinLimit};
 ghost use Rattle.variant_store.specs.World.{world_of};
 ghost use Rattle.variant_store.specs.Ends.{stream_end, Counts};
@@ -22,7 +22,7 @@ pub fn scan<I: Source, O: Sink>(
     input: &mut I,
     out: &mut O,
 ) -> Result<(), Stop<SinkError>>
-    ensures scans { Scans (asked query.now) (world_of (I.seen input.old) (O.seen out.old)) (world_of (I.seen input.new) (O.seen out.new)) result }
+    ensures scans { Scans (query_of query.now) (world_of (I.seen input.old) (O.seen out.old)) (world_of (I.seen input.new) (O.seen out.new)) result }
     ensures counts { Counts (world_of (I.seen input.old) (O.seen out.old)) (world_of (I.seen input.new) (O.seen out.new)) (stream_end result) }
     ensures bounded { OfInput (I.seen input.old).bytes (λ bytes. IsWithinLimit bytes (I.seen input.new).bytes) }
 {

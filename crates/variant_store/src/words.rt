@@ -4,11 +4,11 @@ ghost use Rattle.std.specs.Prelude.{◌≡◌, ℕ, List, map};
 ghost use Rattle.std.specs.List.{list_any};
 ghost use Rattle.std.specs.Str.{bytes_eq};
 ghost use Rattle.std.specs.Option.{option_map};
-ghost use Rattle.query_tree.specs.Asked.{asked};
+ghost use Rattle.query_tree.specs.Asked.{query_of};
 ghost use Rattle.query_tree.specs.PathText.{path_text};
 ghost use Rattle.query_tree.specs.View.{steps_of, formula_of};
-ghost use Rattle.path_grammar.specs.Grammar.{IsPath};
-ghost use Rattle.command_words.specs.Reading.{given};
+ghost use Rattle.path_parsing.specs.Grammar.{IsPath};
+ghost use Rattle.command_words.specs.Reading.{texts_of};
 ghost use Rattle.variant_store.specs.Words.{GiveScan, AsksFilter, ArePaths, IsAsked, AskWrongly, Reads, IsWrongFilter, IsWrongPath, AreWrongPaths, is_repeated};
 
 use command_words::ScanWords;
@@ -120,7 +120,7 @@ fn is_repeated(paths: &[Path]) -> bool
 /// The query of a filter's text and paths' texts.
 #[tactic(auto, using(crate::proofs::ReadWords::filter_refused))]
 pub fn asked_query(alloc: Global, texts: &ScanWords<'_>) -> Result<Query, WordsFault>
-    ensures { (words : List (List ℕ)) → GiveScan words (given texts.now) → Reads (λ query. IsAsked (given texts.now) (asked query)) (AskWrongly words) result }
+    ensures { (words : List (List ℕ)) → GiveScan words (texts_of texts.now) → Reads (λ query. IsAsked (texts_of texts.now) (query_of query)) (AskWrongly words) result }
 {
     let filter = match asked_filter(alloc, texts.filter) {
         Ok(filter) => filter,
