@@ -42,12 +42,12 @@ fn each_failed_read_is_answered_with_the_lines_before_it(rt: HostRuntime) -> Res
                     OUT.starts_with(out.bytes()),
                     "read {k} in pieces of {piece}"
                 );
-                // The lines whose LF was read, less the blank one; or all, once the end was seen.
+                // The lines whose LF was read, less the blank one.
                 let taken = INPUT.len().min((k as usize).saturating_mul(piece));
                 let lines = lf_count(&INPUT[..taken]);
-                let answered = lf_count(out.bytes());
-                assert!(&rt;
-                    answered == without_blank(lines) || (taken == INPUT.len() && answered == 4),
+                assert_eq!(&rt;
+                    lf_count(out.bytes()),
+                    without_blank(lines),
                     "read {k} in pieces of {piece}"
                 );
             }
