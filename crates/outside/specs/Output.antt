@@ -28,3 +28,7 @@ pub record Breaks (a b : Output) (bytes : List ℕ) (fault : SinkError) : Type 0
 abbrev pub Puts : Output → Output → List ℕ → Result (Unit {0}) SinkError → Type 0
 Puts a b bytes (Ok _) = Sends a b bytes
 Puts a b bytes (Err fault) = Breaks a b bytes fault
+
+-- so many bytes are gathered before they are written
+abbrev pub piece_size : ℕ
+piece_size = 65536
