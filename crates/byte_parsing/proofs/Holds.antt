@@ -1,7 +1,7 @@
 -- What holds of a value that is read, if one is: a lemma for each way in which readings are joined.
 use Rattle.std.proofs.Common.{◌≡◌, ◌∙◌, refl, ap, subst, ℕ, List, [], ◌∷◌, ◌++◌, Bool, true, false, cond, Option, Some, None, eqb-true}
 use Rattle.std.specs.Option.{option_map}
-use Rattle.byte_parsing.specs.Lists.{closed}
+use Rattle.byte_parsing.specs.Lists.{list_end}
 use Rattle.byte_parsing.specs.Parse.{and_then, past, past_word}
 
 pub record Holds {A : Type 0} (P : A → Type 0) (o : Option A) : Type 0 where
@@ -38,6 +38,6 @@ holds_word [] xs = holds_some _ xs refl
 holds_word (b ∷ word) xs =
     holds_then _ _ _ _ (holds_past b xs) (λ ys e. holds_as _ _ _ (holds_word word ys) (λ rest f. e ∙ ap (λ zs. b ∷ zs) f))
 
-pub holds_closed : {A : Type 0} (Q : List ℕ → Type 0) (P : A × List ℕ → Type 0) (value : A) (o : Option (List ℕ)) (q : Option (A × List ℕ)) → Holds Q o → ((rest : List ℕ) → Q rest → P (value, rest)) → Holds P q → Holds P (closed value o q)
-holds_closed Q P value None q h k l = l
-holds_closed Q P value (Some rest) q h k l = holds_some P (value, rest) (k rest (h.here rest refl))
+pub holds_list_end : {A : Type 0} (Q : List ℕ → Type 0) (P : A × List ℕ → Type 0) (value : A) (o : Option (List ℕ)) (q : Option (A × List ℕ)) → Holds Q o → ((rest : List ℕ) → Q rest → P (value, rest)) → Holds P q → Holds P (list_end value o q)
+holds_list_end Q P value None q h k l = l
+holds_list_end Q P value (Some rest) q h k l = holds_some P (value, rest) (k rest (h.here rest refl))

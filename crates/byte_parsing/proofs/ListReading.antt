@@ -2,7 +2,7 @@
 use Rattle.std.proofs.Common.{◌≡◌, refl, sym, ap, ◌∙◌, ℕ, suc, zero, ◌==◌, Bool, List, ◌∷◌, ◌++◌, false, Some, None, length}
 use Rattle.byte_parsing.specs.Lists.{item_at, more_at, some_at, all_at}
 use Rattle.byte_parsing.specs.Parse.{Parse, front, back, Passes, Stops, past}
-use Rattle.byte_parsing.proofs.Holds.{Holds, holds_none, holds_then, holds_map, holds_past, holds_closed}
+use Rattle.byte_parsing.proofs.Holds.{Holds, holds_none, holds_then, holds_map, holds_past, holds_list_end}
 use Rattle.byte_parsing.proofs.Runs.{front_run, back_run, split_run, front_passes}
 
 -- what is read was spelled, and is good where it stands
@@ -48,7 +48,7 @@ module _ {V M E : Type 0} (blank : ℕ → Bool)
   more_sound : Laws → (item : Parse V) → IsRead spell Good item → (count : ℕ) → IsRead spell_more GoodMore (λ xs. more_at blank close end next item count xs)
   more_sound l item h zero xs = holds_none _
   more_sound l item h (suc count) xs =
-      holds_closed _ _ _ _ _ (holds_past close xs) (λ rest e. (e ∙ sym (l.end_spelled rest), l.end_good rest))
+      holds_list_end _ _ _ _ _ (holds_past close xs) (λ rest e. (e ∙ sym (l.end_spelled rest), l.end_good rest))
       (holds_then _ _ _ _ (holds_past 44 xs) (λ ys e.
       holds_map _ _ _ _ (item_sound item (λ zs. more_at blank close end next item count zs) h (more_sound l item h count) (back blank ys)) (λ i p. (
         e ∙ ap (λ zs. 44 ∷ zs) (gap_split blank ys _ p.bytes) ∙ sym (l.next_spelled (front blank ys) i.0 i.1 i.2 i.3),
@@ -62,7 +62,7 @@ module _ {V M E : Type 0} (blank : ℕ → Bool)
 
   pub all_sound : Laws → (none : E) → ((after : List ℕ) → spell_all none after ≡ close ∷ after) → ((after : List ℕ) → GoodAll none after) → (item : Parse V) → IsRead spell Good item → IsRead spell_all GoodAll (λ xs. all_at blank close none first end next item xs)
   all_sound l none none_spelled none_good item h xs =
-      holds_closed _ _ _ _ _ (holds_past close xs) (λ rest e. (e ∙ sym (none_spelled rest), none_good rest)) (some_sound l item h xs)
+      holds_list_end _ _ _ _ _ (holds_past close xs) (λ rest e. (e ∙ sym (none_spelled rest), none_good rest)) (some_sound l item h xs)
 
 -- What is spelled is read.
 

@@ -6,7 +6,7 @@ use Rattle.std.proofs.lemmas.Bool.{and_parts}
 use Rattle.std.proofs.lemmas.Bool.Decides.{nat_tests}
 use Rattle.std.proofs.lemmas.Str.{IsUtf8-from_ascii}
 use Rattle.byte_parsing.specs.Parse.{front, back, Passes, Stops, past_word}
-use Rattle.byte_parsing.specs.Words.{is_numeric, is_name_start, is_name_byte, is_name, starts_name, EndsName, is_space, AreSpaces, gap_of, past_gap, ended, past_whole_word, worded}
+use Rattle.byte_parsing.specs.Words.{is_numeric, is_name_start, is_name_byte, is_name, starts_name, EndsName, is_space, AreSpaces, gap_of, past_gap, word_end, past_whole_word, word_value}
 use Rattle.byte_parsing.proofs.Holds.{Holds, holds_none, holds_some, holds_then, holds_as, holds_map, holds_if, holds_word}
 use Rattle.byte_parsing.proofs.Runs.{front_run, back_run, split_run, front_passes, back_stops, all_pass, pass_all}
 
@@ -84,18 +84,18 @@ gap_quiet (x ∷ gap) rest h s = rw h.0 refl
 
 -- Words.
 
-ended_sound : (xs : List ℕ) → Holds (λ rest. (xs ≡ rest) × EndsName rest) (ended xs)
-ended_sound [] = holds_some _ [] (refl, tt)
-ended_sound (x ∷ xs) = holds_if _ _ _ _ (λ _. holds_none _) (λ e. holds_some _ (x ∷ xs) (refl, e))
+word_end_sound : (xs : List ℕ) → Holds (λ rest. (xs ≡ rest) × EndsName rest) (word_end xs)
+word_end_sound [] = holds_some _ [] (refl, tt)
+word_end_sound (x ∷ xs) = holds_if _ _ _ _ (λ _. holds_none _) (λ e. holds_some _ (x ∷ xs) (refl, e))
 
 -- what is read is the word, and it ends
 pub whole_sound : (word xs : List ℕ) → Holds (λ rest. (xs ≡ word ++ rest) × EndsName rest) (past_whole_word word xs)
 whole_sound word xs =
-    holds_then _ _ _ _ (holds_word word xs) (λ ys e. holds_as _ _ _ (ended_sound ys) (λ rest f. (e ∙ ap (λ zs. word ++ zs) f.0, f.1)))
+    holds_then _ _ _ _ (holds_word word xs) (λ ys e. holds_as _ _ _ (word_end_sound ys) (λ rest f. (e ∙ ap (λ zs. word ++ zs) f.0, f.1)))
 
-pub ended_is : (rest : List ℕ) → EndsName rest → ended rest ≡ Some rest
-ended_is [] h = refl
-ended_is (x ∷ rest) h = rw h refl
+pub word_end_is : (rest : List ℕ) → EndsName rest → word_end rest ≡ Some rest
+word_end_is [] h = refl
+word_end_is (x ∷ rest) h = rw h refl
 
 pub word_is : (word rest : List ℕ) → past_word word (word ++ rest) ≡ Some rest
 word_is [] rest = refl
@@ -105,10 +105,10 @@ word_is (b ∷ word) rest = rw (same b) (word_is word rest)
     same x = grind (arith, nat_tests)
 
 pub whole_is_read : (word rest : List ℕ) → EndsName rest → past_whole_word word (word ++ rest) ≡ Some rest
-whole_is_read word rest h = rw (word_is word rest) (ended_is rest h)
+whole_is_read word rest h = rw (word_is word rest) (word_end_is rest h)
 
 pub whole_words : (word xs rest : List ℕ) → (past_whole_word word xs ≡ Some rest) ↔ ((xs ≡ word ++ rest) × EndsName rest)
 whole_words word xs rest = (λ e. (whole_sound word xs).here rest e, λ h. rw h.0 (whole_is_read word rest h.1))
 
-pub worded_sound : {A : Type 0} (Q : List ℕ → Type 0) (P : A × List ℕ → Type 0) (a : A) (o : Option (List ℕ)) → Holds Q o → ((rest : List ℕ) → Q rest → P (a, rest)) → Holds P (worded a o)
-worded_sound Q P a o h k = holds_map Q P o _ h k
+pub word_value_sound : {A : Type 0} (Q : List ℕ → Type 0) (P : A × List ℕ → Type 0) (a : A) (o : Option (List ℕ)) → Holds Q o → ((rest : List ℕ) → Q rest → P (a, rest)) → Holds P (word_value a o)
+word_value_sound Q P a o h k = holds_map Q P o _ h k

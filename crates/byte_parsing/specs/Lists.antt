@@ -6,9 +6,9 @@ use Rattle.byte_parsing.specs.Bytes.{comma}
 use Rattle.byte_parsing.specs.Parse.{Parse, and_then, front, back, past}
 
 -- what is read where a closing byte stands first, and where none does
-abbrev pub closed : {A : Type 0} → A → Option (List ℕ) → Option (A × List ℕ) → Option (A × List ℕ)
-closed value (Some rest) other = Some (value, rest)
-closed value None other = other
+abbrev pub list_end : {A : Type 0} → A → Option (List ℕ) → Option (A × List ℕ) → Option (A × List ℕ)
+list_end value (Some rest) other = Some (value, rest)
+list_end value None other = other
 
 -- an item, a gap, and the items after it
 abbrev pub item_at : {V M : Type 0} → (ℕ → Bool) → Parse V → Parse M → List ℕ → Option (V × List ℕ × M × List ℕ)
@@ -18,7 +18,7 @@ item_at blank item more xs = and_then (item xs) (λ a. option_map (λ m. (a.0, f
 abbrev pub more_at : {V M : Type 0} → (ℕ → Bool) → ℕ → M → (List ℕ → V → List ℕ → M → M) → Parse V → ℕ → Parse M
 more_at blank close end next item zero xs = None
 more_at blank close end next item (suc count) xs =
-    closed end (past close xs) (and_then (past comma xs) (λ ys. option_map (λ i. (next (front blank ys) i.0 i.1 i.2, i.3)) (item_at blank item (λ zs. more_at blank close end next item count zs) (back blank ys))))
+    list_end end (past close xs) (and_then (past comma xs) (λ ys. option_map (λ i. (next (front blank ys) i.0 i.1 i.2, i.3)) (item_at blank item (λ zs. more_at blank close end next item count zs) (back blank ys))))
 
 -- one item at least, up to the closing byte. Each has a byte of its own, so their count is bounded by the bytes
 abbrev pub some_at : {V M E : Type 0} → (ℕ → Bool) → ℕ → (V → List ℕ → M → E) → M → (List ℕ → V → List ℕ → M → M) → Parse V → Parse E
@@ -27,4 +27,4 @@ some_at blank close first end next item xs =
 
 -- any number of items, up to the closing byte
 abbrev pub all_at : {V M E : Type 0} → (ℕ → Bool) → ℕ → E → (V → List ℕ → M → E) → M → (List ℕ → V → List ℕ → M → M) → Parse V → Parse E
-all_at blank close none first end next item xs = closed none (past close xs) (some_at blank close first end next item xs)
+all_at blank close none first end next item xs = list_end none (past close xs) (some_at blank close first end next item xs)

@@ -70,13 +70,13 @@ past_gap xs = back is_space xs
 
 -- Whole words: no byte of a name stands directly after one.
 
-abbrev pub ended : List ℕ → Option (List ℕ)
-ended [] = Some []
-ended (x ∷ xs) = if is_name_byte x then None else Some (x ∷ xs)
+abbrev pub word_end : List ℕ → Option (List ℕ)
+word_end [] = Some []
+word_end (x ∷ xs) = if is_name_byte x then None else Some (x ∷ xs)
 
 abbrev pub past_whole_word : List ℕ → List ℕ → Option (List ℕ)
-past_whole_word word xs = and_then (past_word word xs) ended
+past_whole_word word xs = and_then (past_word word xs) word_end
 
 -- a value that a word stands for
-abbrev pub worded : {A : Type 0} → A → Option (List ℕ) → Option (A × List ℕ)
-worded value rest = option_map (λ xs. (value, xs)) rest
+abbrev pub word_value : {A : Type 0} → A → Option (List ℕ) → Option (A × List ℕ)
+word_value value rest = option_map (λ xs. (value, xs)) rest

@@ -3,7 +3,7 @@
 ghost use Rattle.std.specs.Prelude.{◌≡◌, cond, None, Some};
 ghost use Rattle.byte_parsing.specs.Outcome.{Finds};
 ghost use Rattle.byte_parsing.specs.Parse.{past, past_word};
-ghost use Rattle.byte_parsing.specs.Words.{ended, past_whole_word};
+ghost use Rattle.byte_parsing.specs.Words.{word_end, past_whole_word};
 
 use crate::names::is_name_byte;
 
@@ -30,7 +30,7 @@ pub fn after_bytes<'a>(text: &'a [u8], bytes: &[u8]) -> Option<&'a [u8]>
 
 // Whether a word that ends before `rest` goes on there.
 fn goes_on(rest: &[u8]) -> bool
-    ensures { ended rest.now ≡ cond result None (Some rest.now) }
+    ensures { word_end rest.now ≡ cond result None (Some rest.now) }
 {
     match rest {
         [first, ..] => is_name_byte(*first),

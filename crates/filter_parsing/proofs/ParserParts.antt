@@ -3,7 +3,7 @@ use Rattle.std.proofs.Common.{◌≡◌, ◌∙◌, refl, sym, ap, subst, ℕ, �
 use Rattle.std.proofs.lemmas.Bool.Decides.{nat_tests}
 use Rattle.std.specs.Option.{option_map}
 use Rattle.byte_parsing.specs.Parse.{Parse, and_then, read_as, past, past_word}
-use Rattle.byte_parsing.specs.Words.{past_gap, gap_of, ended, past_whole_word}
+use Rattle.byte_parsing.specs.Words.{past_gap, gap_of, word_end, past_whole_word}
 use Rattle.query_tree.specs.Formula.{Formula, conjunction, disjunction}
 use Rattle.path_parsing.specs.Reading.{path_at}
 use Rattle.filter_parsing.specs.Grammar.{FilterSyntax, bracketed, both, either, formula_of, terms}
@@ -102,7 +102,7 @@ pub unit_denied : (room : ℕ) (xs rest : List ℕ) → past_whole_word (codes "
 unit_denied room [] rest e = cc
 unit_denied room (x ∷ xs) rest e = rw (unit_is room (x ∷ xs)) (by (x == 110) e)
   where
-    by : (b : Bool) → and_then (and_then (cond b (Some xs) None) (λ ys. past_word (codes "ot") ys)) ended ≡ Some rest → cond b (and_then (and_then (and_then (cond b (Some xs) None) (λ ys. past_word (codes "ot") ys)) ended) (λ ys. denied_within room ys)) (cond (x == 40) (bracketed_within room xs) (term_at (x ∷ xs))) ≡ denied_within room rest
+    by : (b : Bool) → and_then (and_then (cond b (Some xs) None) (λ ys. past_word (codes "ot") ys)) word_end ≡ Some rest → cond b (and_then (and_then (and_then (cond b (Some xs) None) (λ ys. past_word (codes "ot") ys)) word_end) (λ ys. denied_within room ys)) (cond (x == 40) (bracketed_within room xs) (term_at (x ∷ xs))) ≡ denied_within room rest
     by true k = rw k refl
     by false k = cc
 

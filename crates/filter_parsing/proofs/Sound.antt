@@ -10,10 +10,10 @@ use Rattle.byte_parsing.specs.Parse.{Parse, front, back}
 use Rattle.byte_parsing.specs.Words.{is_numeric, EndsName, AreSpaces, gap_of, past_gap, past_whole_word}
 use Rattle.byte_parsing.proofs.Holds.{Holds, holds_none, holds_some, holds_then, holds_as, holds_map, holds_if, holds_past}
 use Rattle.byte_parsing.proofs.Runs.{split_run}
-use Rattle.byte_parsing.proofs.Words.{gap_front, gap_split, whole_sound, worded_sound}
+use Rattle.byte_parsing.proofs.Words.{gap_front, gap_split, whole_sound, word_value_sound}
 use Rattle.query_tree.specs.declared.filter.Relation.{Relation}
-use Rattle.path_parsing.specs.Grammar.{path_spelled}
-use Rattle.filter_parsing.specs.Grammar.{LiteralSyntax, null_word, truth_word, string, TestSyntax, exists_word, missing_word, FilterSyntax, both, either, relation_text, literal_spelled, test_spelled, spelled, IsWellLiteral, IsWellTest, IsWell, looseness, nesting, terms}
+use Rattle.path_parsing.specs.Grammar.{path_bytes}
+use Rattle.filter_parsing.specs.Grammar.{LiteralSyntax, null_word, truth_word, string, TestSyntax, exists_word, missing_word, FilterSyntax, both, either, relation_text, literal_bytes, test_bytes, filter_bytes, IsWellLiteral, IsWellTest, IsWell, looseness, nesting, terms}
 use Rattle.filter_parsing.specs.Reading.{or_equal, relation_at, number_from, number_at, string_literal, literal_at, related_at, test_at, term_at, are_few, more_at, joined_at, conj_at, filter_by, denied_at, bracketed_at, unit_by, unit_at, whole, filter_at}
 use Rattle.filter_parsing.proofs.Numbers.{read_number}
 use Rattle.path_parsing.proofs.Sound.{path_sound}
@@ -33,7 +33,7 @@ unfolding relation_at
 relation_sound [] = holds_none _
 relation_sound (x ∷ xs) =
     holds_if (IsRelation (x ∷ xs)) _ _ _ (λ e. holds_some _ _ (first 61 e))
-    (λ _. holds_if _ (x == 33) _ _ (λ e. worded_sound _ _ _ _ (holds_past 61 xs) (λ rest f. second 33 rest e f))
+    (λ _. holds_if _ (x == 33) _ _ (λ e. word_value_sound _ _ _ _ (holds_past 61 xs) (λ rest f. second 33 rest e f))
     (λ _. holds_if _ (x == 60) _ _ (λ e. or_equal_sound _ _ _ _ _ (first 60 e) (holds_as _ _ _ (holds_past 61 xs) (λ rest f. second 60 rest e f)))
     (λ _. holds_if _ (x == 62) _ _ (λ e. or_equal_sound _ _ _ _ _ (first 62 e) (holds_as _ _ _ (holds_past 61 xs) (λ rest f. second 62 rest e f)))
     (λ _. holds_none _))))
@@ -47,7 +47,7 @@ relation_sound (x ∷ xs) =
 -- Literals.
 
 abbrev IsLiteral : List ℕ → LiteralSyntax × List ℕ → Type 0
-IsLiteral xs read = (xs ≡ literal_spelled read.0 read.1) × IsWellLiteral read.0 read.1
+IsLiteral xs read = (xs ≡ literal_bytes read.0 read.1) × IsWellLiteral read.0 read.1
 
 number_sound : (xs : List ℕ) → Holds (IsLiteral xs) (number_at xs)
 number_sound xs = by (read_of (front is_numeric xs)) refl
@@ -66,15 +66,15 @@ unfolding literal_at
 literal_sound [] = holds_none _
 literal_sound (x ∷ xs) =
     holds_if (IsLiteral (x ∷ xs)) (x == 34) _ _ (λ e. holds_as _ _ _ (string_sound xs) (λ read p. (ap (λ y. y ∷ xs) (eqb-true x 34 e) ∙ p.0, p.1)))
-    (λ _. holds_if _ (x == 110) _ _ (λ _. worded_sound _ _ null_word _ (whole_sound (codes "null") (x ∷ xs)) (λ rest p. p))
-    (λ _. holds_if _ (x == 116) _ _ (λ _. worded_sound _ _ (truth_word true) _ (whole_sound (codes "true") (x ∷ xs)) (λ rest p. p))
-    (λ _. holds_if _ (x == 102) _ _ (λ _. worded_sound _ _ (truth_word false) _ (whole_sound (codes "false") (x ∷ xs)) (λ rest p. p))
+    (λ _. holds_if _ (x == 110) _ _ (λ _. word_value_sound _ _ null_word _ (whole_sound (codes "null") (x ∷ xs)) (λ rest p. p))
+    (λ _. holds_if _ (x == 116) _ _ (λ _. word_value_sound _ _ (truth_word true) _ (whole_sound (codes "true") (x ∷ xs)) (λ rest p. p))
+    (λ _. holds_if _ (x == 102) _ _ (λ _. word_value_sound _ _ (truth_word false) _ (whole_sound (codes "false") (x ∷ xs)) (λ rest p. p))
     (λ _. number_sound (x ∷ xs)))))
 
 -- Tests and terms.
 
 abbrev IsTest : List ℕ → TestSyntax × List ℕ → Type 0
-IsTest xs read = (xs ≡ test_spelled read.0 read.1) × IsWellTest read.0 read.1
+IsTest xs read = (xs ≡ test_bytes read.0 read.1) × IsWellTest read.0 read.1
 
 related_sound : (xs : List ℕ) → Holds (IsTest xs) (related_at xs)
 related_sound xs =
@@ -86,13 +86,13 @@ test_sound : (xs : List ℕ) → Holds (IsTest xs) (test_at xs)
 unfolding test_at
 test_sound [] = holds_none _
 test_sound (x ∷ xs) =
-    holds_if (IsTest (x ∷ xs)) (x == 101) _ _ (λ _. worded_sound _ _ exists_word _ (whole_sound (codes "exists") (x ∷ xs)) (λ rest p. p))
-    (λ _. holds_if _ (x == 109) _ _ (λ _. worded_sound _ _ missing_word _ (whole_sound (codes "missing") (x ∷ xs)) (λ rest p. p))
+    holds_if (IsTest (x ∷ xs)) (x == 101) _ _ (λ _. word_value_sound _ _ exists_word _ (whole_sound (codes "exists") (x ∷ xs)) (λ rest p. p))
+    (λ _. holds_if _ (x == 109) _ _ (λ _. word_value_sound _ _ missing_word _ (whole_sound (codes "missing") (x ∷ xs)) (λ rest p. p))
     (λ _. related_sound (x ∷ xs)))
 
 -- what is known of a part that is read: how loosely it is bound, and how deep it nests
 pub record IsPart (loose depth : ℕ) (xs : List ℕ) (read : FilterSyntax × List ℕ) : Type 0 where
-  pub bytes : xs ≡ spelled read.0 read.1
+  pub bytes : xs ≡ filter_bytes read.0 read.1
   pub well : IsWell read.0 read.1
   pub bound : looseness read.0 ≤ loose
   pub shallow : nesting read.0 ≤ depth
@@ -103,9 +103,9 @@ unfolding term_at
 term_sound depth xs =
     holds_then _ _ _ _ (path_sound xs) (λ path p.
     holds_map _ _ _ _ (test_sound (past_gap path.1)) (λ test q.
-    let split : path.1 ≡ gap_of path.1 ++ test_spelled test.0 test.1 = gap_split path.1 _ q.0 in
+    let split : path.1 ≡ gap_of path.1 ++ test_bytes test.0 test.1 = gap_split path.1 _ q.0 in
     record {
-      bytes = p.0 ∙ ap (λ ys. path_spelled path.0 ys) split;
+      bytes = p.0 ∙ ap (λ ys. path_bytes path.0 ys) split;
       well = (rw split at p.1, gap_front path.1, q.1);
       bound = zero-le;
       shallow = zero-le;
@@ -116,8 +116,8 @@ term_sound depth xs =
 
 -- how a word joins parts that are bound so loosely with one that is bound as `inner` says
 record JoinLaws (word : List ℕ) (join : FilterSyntax → List ℕ → List ℕ → FilterSyntax → FilterSyntax) (loose inner : ℕ) : Type 0 where
-  bytes : (v : FilterSyntax) (before behind : List ℕ) (w : FilterSyntax) (after : List ℕ) → spelled (join v before behind w) after ≡ spelled v (before ++ (word ++ (behind ++ spelled w after)))
-  well : (v : FilterSyntax) (before behind : List ℕ) (w : FilterSyntax) (after : List ℕ) → looseness v ≤ loose → looseness w ≤ inner → AreSpaces before → AreSpaces behind → IsWell v (before ++ (word ++ (behind ++ spelled w after))) → EndsName (behind ++ spelled w after) → IsWell w after → IsWell (join v before behind w) after
+  bytes : (v : FilterSyntax) (before behind : List ℕ) (w : FilterSyntax) (after : List ℕ) → filter_bytes (join v before behind w) after ≡ filter_bytes v (before ++ (word ++ (behind ++ filter_bytes w after)))
+  well : (v : FilterSyntax) (before behind : List ℕ) (w : FilterSyntax) (after : List ℕ) → looseness v ≤ loose → looseness w ≤ inner → AreSpaces before → AreSpaces behind → IsWell v (before ++ (word ++ (behind ++ filter_bytes w after))) → EndsName (behind ++ filter_bytes w after) → IsWell w after → IsWell (join v before behind w) after
   bound : (v : FilterSyntax) (before behind : List ℕ) (w : FilterSyntax) → looseness (join v before behind w) ≤ loose
   shallow : (v : FilterSyntax) (before behind : List ℕ) (w : FilterSyntax) → nesting (join v before behind w) ≡ max (nesting v) (nesting w)
   few : (v : FilterSyntax) (before behind : List ℕ) (w : FilterSyntax) → terms (join v before behind w) ≡ terms v + terms w
@@ -147,10 +147,10 @@ module _ (word : List ℕ) (join : FilterSyntax → List ℕ → List ℕ → Fi
   -- one more part
   joined : (all xs behind : List ℕ) (v w : FilterSyntax) (ys rest : List ℕ) → IsPart loose depth all (v, xs) → past_gap xs ≡ word ++ ys → EndsName ys → IsPart inner depth (past_gap ys) (w, rest) → are_few v w ≡ true → IsPart loose depth all (join v (gap_of xs) (gap_of ys) w, rest)
   joined all xs behind v w ys rest p e ends q f =
-      let inside : ys ≡ gap_of ys ++ spelled w rest = gap_split ys _ q.bytes in
-      let split : xs ≡ gap_of xs ++ (word ++ (gap_of ys ++ spelled w rest)) = gap_split xs _ e ∙ ap (λ zs. gap_of xs ++ (word ++ zs)) inside in
+      let inside : ys ≡ gap_of ys ++ filter_bytes w rest = gap_split ys _ q.bytes in
+      let split : xs ≡ gap_of xs ++ (word ++ (gap_of ys ++ filter_bytes w rest)) = gap_split xs _ e ∙ ap (λ zs. gap_of xs ++ (word ++ zs)) inside in
       record {
-        bytes = p.bytes ∙ ap (λ zs. spelled v zs) split ∙ sym (laws.bytes v (gap_of xs) (gap_of ys) w rest);
+        bytes = p.bytes ∙ ap (λ zs. filter_bytes v zs) split ∙ sym (laws.bytes v (gap_of xs) (gap_of ys) w rest);
         well = laws.well v (gap_of xs) (gap_of ys) w rest p.bound q.bound (gap_front xs) (gap_front ys) (rw split at p.well) (rw inside at ends) q.well;
         bound = laws.bound v (gap_of xs) (gap_of ys) w;
         shallow = omega (arith, laws.shallow v (gap_of xs) (gap_of ys) w, p.shallow, q.shallow);
@@ -187,7 +187,7 @@ filter_by_sound depth unit h xs = joined_sound (codes "or") either 2 1 or_laws d
 denied_sound : (depth : ℕ) (unit : Parse FilterSyntax) → Reads 0 depth unit → (xs : List ℕ) → EndsName xs → Holds (IsPart 0 (suc depth) (codes "not" ++ xs)) (denied_at unit xs)
 denied_sound depth unit h xs ends =
     holds_map _ _ _ _ (h (past_gap xs)) (λ r p.
-    let split : xs ≡ gap_of xs ++ spelled r.0 r.1 = gap_split xs _ p.bytes in
+    let split : xs ≡ gap_of xs ++ filter_bytes r.0 r.1 = gap_split xs _ p.bytes in
     record {
       bytes = ap (λ ys. codes "not" ++ ys) split;
       well = (omega (arith, p.bound), rw split at ends, gap_front xs, p.well);
@@ -202,7 +202,7 @@ bracketed_sound depth unit h xs =
     holds_map _ _ _ _ (holds_past 41 (past_gap r.1)) (λ rest e.
     let split : r.1 ≡ gap_of r.1 ++ 41 ∷ rest = gap_split r.1 _ e in
     record {
-      bytes = ap (λ ys. 40 ∷ ys) (gap_split xs _ p.bytes ∙ ap (λ ys. gap_of xs ++ spelled r.0 ys) split);
+      bytes = ap (λ ys. 40 ∷ ys) (gap_split xs _ p.bytes ∙ ap (λ ys. gap_of xs ++ filter_bytes r.0 ys) split);
       well = (gap_front xs, gap_front r.1, rw split at p.well);
       bound = zero-le;
       shallow = omega (arith, p.shallow);

@@ -2,15 +2,15 @@
 use Rattle.std.proofs.Common.{◌≡◌, ◌∙◌, refl, sym, ap, ℕ, ◌≤◌, List, [], Some, None, length}
 use Rattle.std.proofs.lemmas.Bool.{le-leb}
 use Rattle.query_tree.specs.Formula.{Formula}
-use Rattle.filter_parsing.specs.Grammar.{FilterSyntax, spelled, IsWell, nesting, terms, formula_of, IsFilter}
+use Rattle.filter_parsing.specs.Grammar.{FilterSyntax, filter_bytes, IsWell, nesting, terms, formula_of, IsFilter}
 use Rattle.filter_parsing.specs.Reading.{filter_at}
 use Rattle.filter_parsing.proofs.Sound.{filter_holds}
 use Rattle.filter_parsing.proofs.Complete.{filter_is_read}
 
-pub filter_complete : (text : List ℕ) (w : FilterSyntax) → text ≡ spelled w [] → IsWell w [] → terms w ≤ 256 → nesting w ≤ 64 → length text ≤ 65536 → filter_at text ≡ Some w
+pub filter_complete : (text : List ℕ) (w : FilterSyntax) → text ≡ filter_bytes w [] → IsWell w [] → terms w ≤ 256 → nesting w ≤ 64 → length text ≤ 65536 → filter_at text ≡ Some w
 filter_complete text w e h few shallow short = rw (le-leb (length text) 65536 short, e, filter_is_read w h few shallow) refl
 
-pub filter_sound : (text : List ℕ) (w : FilterSyntax) → filter_at text ≡ Some w → (text ≡ spelled w []) × IsWell w [] × (terms w ≤ 256) × (nesting w ≤ 64) × (length text ≤ 65536)
+pub filter_sound : (text : List ℕ) (w : FilterSyntax) → filter_at text ≡ Some w → (text ≡ filter_bytes w []) × IsWell w [] × (terms w ≤ 256) × (nesting w ≤ 64) × (length text ≤ 65536)
 filter_sound text w e =
     let h = (filter_holds text).here w e in
     (h.0.bytes, h.0.well, h.0.few, h.0.shallow, h.1)

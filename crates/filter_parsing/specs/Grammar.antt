@@ -21,7 +21,7 @@ use Rattle.json_tree.specs.Json.{Json}
 use Rattle.query_tree.specs.Formula.{Claim, exists, missing, stands, Formula, term, conjunction, disjunction, negation}
 use Rattle.query_tree.specs.declared.filter.Relation.{Relation}
 use Rattle.query_tree.specs.declared.filter.Relation.TheVariants.{Equal, NotEqual, Less, AtMost, Greater, AtLeast}
-use Rattle.path_parsing.specs.Grammar.{PathSyntax, path_spelled, path_of, IsPathBefore}
+use Rattle.path_parsing.specs.Grammar.{PathSyntax, path_bytes, path_of, IsPathBefore}
 use Rattle.filter_parsing.specs.Limits.{most_bytes, most_terms, most_nesting}
 
 -- one way to write a literal
@@ -67,23 +67,23 @@ relation_text AtMost = codes "<="
 relation_text Greater = codes ">"
 relation_text AtLeast = codes ">="
 
-abbrev pub literal_spelled : LiteralSyntax → List ℕ → List ℕ
-literal_spelled null_word after = codes "null" ++ after
-literal_spelled (truth_word b) after = (if b then codes "true" else codes "false") ++ after
-literal_spelled (digits s d) after = s ++ after
-literal_spelled (string ps) after = quote ∷ pieces_spelled ps after
+abbrev pub literal_bytes : LiteralSyntax → List ℕ → List ℕ
+literal_bytes null_word after = codes "null" ++ after
+literal_bytes (truth_word b) after = (if b then codes "true" else codes "false") ++ after
+literal_bytes (digits s d) after = s ++ after
+literal_bytes (string ps) after = quote ∷ pieces_spelled ps after
 
-abbrev pub test_spelled : TestSyntax → List ℕ → List ℕ
-test_spelled exists_word after = codes "exists" ++ after
-test_spelled missing_word after = codes "missing" ++ after
-test_spelled (related relation gap literal) after = relation_text relation ++ (gap ++ literal_spelled literal after)
+abbrev pub test_bytes : TestSyntax → List ℕ → List ℕ
+test_bytes exists_word after = codes "exists" ++ after
+test_bytes missing_word after = codes "missing" ++ after
+test_bytes (related relation gap literal) after = relation_text relation ++ (gap ++ literal_bytes literal after)
 
-abbrev pub spelled : FilterSyntax → List ℕ → List ℕ
-spelled (tested path gap test) after = path_spelled path (gap ++ test_spelled test after)
-spelled (denied gap w) after = codes "not" ++ (gap ++ spelled w after)
-spelled (bracketed before w gap) after = open_parenthesis ∷ (before ++ spelled w (gap ++ close_parenthesis ∷ after))
-spelled (both v before gap w) after = spelled v (before ++ (codes "and" ++ (gap ++ spelled w after)))
-spelled (either v before gap w) after = spelled v (before ++ (codes "or" ++ (gap ++ spelled w after)))
+abbrev pub filter_bytes : FilterSyntax → List ℕ → List ℕ
+filter_bytes (tested path gap test) after = path_bytes path (gap ++ test_bytes test after)
+filter_bytes (denied gap w) after = codes "not" ++ (gap ++ filter_bytes w after)
+filter_bytes (bracketed before w gap) after = open_parenthesis ∷ (before ++ filter_bytes w (gap ++ close_parenthesis ∷ after))
+filter_bytes (both v before gap w) after = filter_bytes v (before ++ (codes "and" ++ (gap ++ filter_bytes w after)))
+filter_bytes (either v before gap w) after = filter_bytes v (before ++ (codes "or" ++ (gap ++ filter_bytes w after)))
 
 -- What the grammar asks, with `after` after the bytes.
 
@@ -107,15 +107,15 @@ looseness (both v before gap w) = 1
 looseness (either v before gap w) = 2
 
 abbrev pub IsWell : FilterSyntax → List ℕ → Type 0
-IsWell (tested path gap test) after = IsPathBefore path (gap ++ test_spelled test after) × AreSpaces gap × IsWellTest test after
-IsWell (denied gap w) after = (looseness w ≡ 0) × EndsName (gap ++ spelled w after) × AreSpaces gap × IsWell w after
+IsWell (tested path gap test) after = IsPathBefore path (gap ++ test_bytes test after) × AreSpaces gap × IsWellTest test after
+IsWell (denied gap w) after = (looseness w ≡ 0) × EndsName (gap ++ filter_bytes w after) × AreSpaces gap × IsWell w after
 IsWell (bracketed before w gap) after = AreSpaces before × AreSpaces gap × IsWell w (gap ++ close_parenthesis ∷ after)
 IsWell (both v before gap w) after =
     (looseness v ≤ 1) × (looseness w ≡ 0) × AreSpaces before × AreSpaces gap
-    × IsWell v (before ++ (codes "and" ++ (gap ++ spelled w after))) × EndsName (gap ++ spelled w after) × IsWell w after
+    × IsWell v (before ++ (codes "and" ++ (gap ++ filter_bytes w after))) × EndsName (gap ++ filter_bytes w after) × IsWell w after
 IsWell (either v before gap w) after =
     (looseness w ≤ 1) × AreSpaces before × AreSpaces gap
-    × IsWell v (before ++ (codes "or" ++ (gap ++ spelled w after))) × EndsName (gap ++ spelled w after) × IsWell w after
+    × IsWell v (before ++ (codes "or" ++ (gap ++ filter_bytes w after))) × EndsName (gap ++ filter_bytes w after) × IsWell w after
 
 -- how many `not`s and brackets stand round one term
 abbrev pub nesting : FilterSyntax → ℕ
@@ -155,7 +155,7 @@ formula_of (either v before gap w) = disjunction (formula_of v) (formula_of w)
 -- a text is this filter, within the limits
 pub record IsFilter (text : List ℕ) (formula : Formula) : Type 0 where
   pub written : FilterSyntax
-  pub bytes : text ≡ spelled written []
+  pub bytes : text ≡ filter_bytes written []
   pub well : IsWell written []
   pub means : formula ≡ formula_of written
   pub few : terms written ≤ most_terms

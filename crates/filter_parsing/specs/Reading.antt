@@ -5,7 +5,7 @@ use Rattle.std.specs.Prelude.{◌==◌, nat_le, ℕ, ◌+◌, suc, zero, List, [
 use Rattle.std.specs.Option.{option_map}
 use Rattle.byte_parsing.specs.Bytes.{exclamation_mark, quote, open_parenthesis, close_parenthesis, less_sign, equals_sign, greater_sign, lower_e, lower_f, lower_m, lower_n, lower_t}
 use Rattle.byte_parsing.specs.Parse.{Parse, and_then, front, back, past}
-use Rattle.byte_parsing.specs.Words.{is_numeric, gap_of, past_gap, past_whole_word, worded}
+use Rattle.byte_parsing.specs.Words.{is_numeric, gap_of, past_gap, past_whole_word, word_value}
 use Rattle.exact_num.specs.Decimal.{Decimal}
 use Rattle.exact_num.specs.Reading.{read_of}
 use Rattle.exact_num.specs.declared.fault.NumFault.{NumFault}
@@ -26,7 +26,7 @@ unfoldable pub relation_at : Parse Relation
 relation_at [] = None
 relation_at (x ∷ xs) =
     if x == equals_sign then Some (Equal, xs)
-    else (if x == exclamation_mark then worded NotEqual (past equals_sign xs)
+    else (if x == exclamation_mark then word_value NotEqual (past equals_sign xs)
     else (if x == less_sign then or_equal Less AtMost xs (past equals_sign xs)
     else (if x == greater_sign then or_equal Greater AtLeast xs (past equals_sign xs)
     else None)))
@@ -49,9 +49,9 @@ unfoldable pub literal_at : Parse LiteralSyntax
 literal_at [] = None
 literal_at (x ∷ xs) =
     if x == quote then string_literal xs
-    else (if x == lower_n then worded null_word (past_whole_word (codes "null") (x ∷ xs))
-    else (if x == lower_t then worded (truth_word true) (past_whole_word (codes "true") (x ∷ xs))
-    else (if x == lower_f then worded (truth_word false) (past_whole_word (codes "false") (x ∷ xs))
+    else (if x == lower_n then word_value null_word (past_whole_word (codes "null") (x ∷ xs))
+    else (if x == lower_t then word_value (truth_word true) (past_whole_word (codes "true") (x ∷ xs))
+    else (if x == lower_f then word_value (truth_word false) (past_whole_word (codes "false") (x ∷ xs))
     else number_at (x ∷ xs))))
 
 -- Tests and terms.
@@ -62,8 +62,8 @@ related_at xs = and_then (relation_at xs) (λ r. option_map (λ l. (related r.0 
 unfoldable pub test_at : Parse TestSyntax
 test_at [] = None
 test_at (x ∷ xs) =
-    if x == lower_e then worded exists_word (past_whole_word (codes "exists") (x ∷ xs))
-    else (if x == lower_m then worded missing_word (past_whole_word (codes "missing") (x ∷ xs))
+    if x == lower_e then word_value exists_word (past_whole_word (codes "exists") (x ∷ xs))
+    else (if x == lower_m then word_value missing_word (past_whole_word (codes "missing") (x ∷ xs))
     else related_at (x ∷ xs))
 
 unfoldable pub term_at : Parse FilterSyntax

@@ -22,7 +22,7 @@ use Rattle.json_tree.specs.Text as texts
 use Rattle.query_tree.specs.PathText.{step_text, path_text}
 use Rattle.query_tree.specs.declared.step.Step.{Step}
 use Rattle.path_parsing.specs.Canonical.{IsWritable}
-use Rattle.path_parsing.specs.Grammar.{StepSyntax, dotted, quoted, indexed, starred, step_spelled, steps_spelled, IsWellStep, AreWellSteps, IsPath, step_of, path_of}
+use Rattle.path_parsing.specs.Grammar.{StepSyntax, dotted, quoted, indexed, starred, step_bytes, steps_bytes, IsWellStep, AreWellSteps, IsPath, step_of, path_of}
 use Rattle.path_parsing.proofs.CanonicalTexts.{canonical_is_path}
 use Rattle.path_parsing.proofs.Decimals.{printed}
 use Rattle.path_parsing.proofs.Lengths.{pieces_length, step_length}
@@ -148,11 +148,11 @@ step_writable (quoted ps) after h = h.0.1
 step_writable (indexed digits) after h = index_small digits h.0 h.1
 step_writable starred after h = tt
 
-step_fits : (s : StepSyntax) (after : List ℕ) → IsWellStep s after → length (step_text (step_of s)) ≤ length (step_spelled s [])
+step_fits : (s : StepSyntax) (after : List ℕ) → IsWellStep s after → length (step_text (step_of s)) ≤ length (step_bytes s [])
 step_fits (dotted name) after h = rw h.0 (omega (arith, length-append {A = ℕ} name []))
 step_fits (quoted ps) after h = by (is_name (text_of ps))
   where
-    by : (b : Bool) → length (cond b (46 ∷ text_of ps) (91 ∷ (texts.quoted (text_of ps) ++ 93 ∷ []))) ≤ length (step_spelled (quoted ps) [])
+    by : (b : Bool) → length (cond b (46 ∷ text_of ps) (91 ∷ (texts.quoted (text_of ps) ++ 93 ∷ []))) ≤ length (step_bytes (quoted ps) [])
     by true = omega (arith, pieces_length ps (93 ∷ []), pieces_fit None ps h.0.0, text_fits (text_of ps))
     by false = omega (arith, pieces_length ps (93 ∷ []), pieces_fit None ps h.0.0, length-append (texts.quoted (text_of ps)) (93 ∷ []), length-append (flat_map escaped (text_of ps)) (34 ∷ []))
 step_fits (indexed digits) after h =
@@ -161,12 +161,12 @@ step_fits starred after h = omega arith
 
 steps_writable : (ss : List StepSyntax) (after : List ℕ) → AreWellSteps ss after → AllByRecursion IsWritable (path_of ss)
 steps_writable [] after h = tt
-steps_writable (s ∷ ss) after h = (step_writable s (steps_spelled ss after) h.0, steps_writable ss after h.1)
+steps_writable (s ∷ ss) after h = (step_writable s (steps_bytes ss after) h.0, steps_writable ss after h.1)
 
-steps_fit : (ss : List StepSyntax) → AreWellSteps ss [] → length (flat_map step_text (path_of ss)) ≤ length (steps_spelled ss [])
+steps_fit : (ss : List StepSyntax) → AreWellSteps ss [] → length (flat_map step_text (path_of ss)) ≤ length (steps_bytes ss [])
 steps_fit [] h = omega arith
 steps_fit (s ∷ ss) h =
-    omega (arith, length-append (step_text (step_of s)) (flat_map step_text (path_of ss)), step_length s (steps_spelled ss []), step_fits s (steps_spelled ss []) h.0, steps_fit ss h.1)
+    omega (arith, length-append (step_text (step_of s)) (flat_map step_text (path_of ss)), step_length s (steps_bytes ss []), step_fits s (steps_bytes ss []) h.0, steps_fit ss h.1)
 
 pub canonical_of_path : (text : List ℕ) (steps : List Step) → IsPath text steps → IsPath (path_text steps) steps
 canonical_of_path text steps p =

@@ -9,7 +9,7 @@ use Rattle.query_tree.specs.declared.step.Step.{Step}
 use Rattle.query_tree.specs.declared.step.Step.TheVariants.{Field, Index, Star}
 use Rattle.json_tree.specs.Text as texts
 use Rattle.path_parsing.specs.Canonical.{IsWritable}
-use Rattle.path_parsing.specs.Grammar.{StepSyntax, dotted, quoted, indexed, starred, step_spelled, steps_spelled, path_spelled, IsWellStep, AreWellSteps, IsPath, step_of, path_of}
+use Rattle.path_parsing.specs.Grammar.{StepSyntax, dotted, quoted, indexed, starred, step_bytes, steps_bytes, path_bytes, IsWellStep, AreWellSteps, IsPath, step_of, path_of}
 use Rattle.path_parsing.proofs.Decimals.{printed}
 use Rattle.json_tree.proofs.QuotedStrings.{pieces_of, string_spells, string_means, string_paired, string_well}
 
@@ -20,7 +20,7 @@ written_of Star = starred
 
 -- what is known of a step that is written so
 record IsWrittenSo (s : Step) (w : StepSyntax) (text : List ℕ) : Type 0 where
-  spells : (after : List ℕ) → step_spelled w after ≡ text ++ after
+  spells : (after : List ℕ) → step_bytes w after ≡ text ++ after
   well : (after : List ℕ) → EndsName after → IsWellStep w after
   means : step_of w ≡ s
 
@@ -43,12 +43,12 @@ step_so (Index n) h =
     }
 step_so Star h = record { spells = λ after. refl; well = λ after ends. tt; means = refl }
 
-steps_spell : (ss : List Step) → AllByRecursion IsWritable ss → steps_spelled (map written_of ss) [] ≡ flat_map step_text ss
+steps_spell : (ss : List Step) → AllByRecursion IsWritable ss → steps_bytes (map written_of ss) [] ≡ flat_map step_text ss
 steps_spell [] h = refl
-steps_spell (s ∷ ss) h = (step_so s h.0).spells (steps_spelled (map written_of ss) []) ∙ ap (λ ys. step_text s ++ ys) (steps_spell ss h.1)
+steps_spell (s ∷ ss) h = (step_so s h.0).spells (steps_bytes (map written_of ss) []) ∙ ap (λ ys. step_text s ++ ys) (steps_spell ss h.1)
 
 -- a step ends a name
-ends_name : (ws : List StepSyntax) → EndsName (steps_spelled ws [])
+ends_name : (ws : List StepSyntax) → EndsName (steps_bytes ws [])
 ends_name [] = tt
 ends_name (dotted name ∷ ws) = refl
 ends_name (quoted ps ∷ ws) = refl
@@ -57,7 +57,7 @@ ends_name (starred ∷ ws) = refl
 
 steps_well : (ss : List Step) → AllByRecursion IsWritable ss → AreWellSteps (map written_of ss) []
 steps_well [] h = tt
-steps_well (s ∷ ss) h = ((step_so s h.0).well (steps_spelled (map written_of ss) []) (ends_name (map written_of ss)), steps_well ss h.1)
+steps_well (s ∷ ss) h = ((step_so s h.0).well (steps_bytes (map written_of ss) []) (ends_name (map written_of ss)), steps_well ss h.1)
 
 steps_mean : (ss : List Step) → AllByRecursion IsWritable ss → ss ≡ path_of (map written_of ss)
 steps_mean [] h = refl
@@ -65,7 +65,7 @@ steps_mean (s ∷ ss) h = ap₂ (λ x xs. x ∷ xs) (sym (step_so s h.0).means) 
 
 pub canonical_is_path : (ss : List Step) → AllByRecursion IsWritable ss → length ss ≤ 64 → length (path_text ss) ≤ 4096 → IsPath (path_text ss) ss
 canonical_is_path ss h few short =
-    let bytes : path_text ss ≡ path_spelled (map written_of ss) [] = ap (λ ys. 36 ∷ ys) (sym (steps_spell ss h)) in
+    let bytes : path_text ss ≡ path_bytes (map written_of ss) [] = ap (λ ys. 36 ∷ ys) (sym (steps_spell ss h)) in
     record {
       written = map written_of ss;
       bytes = bytes;

@@ -10,15 +10,15 @@ use Rattle.byte_parsing.proofs.Runs.{split_run, front_passes}
 use Rattle.byte_parsing.proofs.WholeNumbers.{whole_is}
 use Rattle.byte_parsing.proofs.Words.{back_ends}
 use Rattle.json_strings.specs.Pieces.{pieces_spelled}
-use Rattle.path_parsing.specs.Grammar.{StepSyntax, dotted, quoted, indexed, starred, step_spelled, steps_spelled, path_spelled, IsWellStep, AreWellSteps, IsPathBefore}
-use Rattle.path_parsing.specs.Reading.{name_at, string_step, is_index, index_at, inside_at, bracketed, bracket_at, step_at, steps_at, path_at}
+use Rattle.path_parsing.specs.Grammar.{StepSyntax, dotted, quoted, indexed, starred, step_bytes, steps_bytes, path_bytes, IsWellStep, AreWellSteps, IsPathBefore}
+use Rattle.path_parsing.specs.Reading.{name_at, string_step, is_index, index_at, inside_at, in_brackets, bracket_at, step_at, steps_at, path_at}
 use Rattle.path_parsing.proofs.Lengths.{path_length}
 use Rattle.path_parsing.proofs.Strings.{string_sound}
 
 -- Names.
 
 abbrev IsReadStep : List ℕ → StepSyntax × List ℕ → Type 0
-IsReadStep xs read = (xs ≡ step_spelled read.0 read.1) × IsWellStep read.0 read.1
+IsReadStep xs read = (xs ≡ step_bytes read.0 read.1) × IsWellStep read.0 read.1
 
 name_sound : (xs : List ℕ) → Holds (IsReadStep (46 ∷ xs)) (name_at xs)
 name_sound xs =
@@ -62,13 +62,13 @@ inside_sound (x ∷ xs) =
     (λ e. holds_some (IsClosing (x ∷ xs)) (starred, xs) (record { closing = λ after f. (ap (λ y. 91 ∷ (y ∷ xs)) (eqb-true x 42 e) ∙ ap (λ ys. 91 ∷ (42 ∷ ys)) f, tt) }))
     (λ _. index_closing (x ∷ xs)))
 
-bracketed_sound : (xs : List ℕ) (o : Option (StepSyntax × List ℕ)) → Holds (IsClosing xs) o → Holds (IsReadStep (91 ∷ xs)) (bracketed o)
-bracketed_sound xs o h =
+in_brackets_sound : (xs : List ℕ) (o : Option (StepSyntax × List ℕ)) → Holds (IsClosing xs) o → Holds (IsReadStep (91 ∷ xs)) (in_brackets o)
+in_brackets_sound xs o h =
     holds_then _ (IsReadStep (91 ∷ xs)) _ _ h (λ read p.
     holds_map _ (IsReadStep (91 ∷ xs)) _ _ (holds_past 93 read.1) (λ rest e. p.closing rest e))
 
 bracket_sound : (xs : List ℕ) → Holds (IsReadStep (91 ∷ xs)) (bracket_at xs)
-bracket_sound xs = bracketed_sound xs (inside_at xs) (inside_sound xs)
+bracket_sound xs = in_brackets_sound xs (inside_at xs) (inside_sound xs)
 
 step_sound : (xs : List ℕ) → Holds (IsReadStep xs) (step_at xs)
 step_sound [] = holds_none _
@@ -80,7 +80,7 @@ step_sound (x ∷ xs) =
 -- Paths.
 
 pub record AreReadSteps (k : ℕ) (xs : List ℕ) (read : List StepSyntax × List ℕ) : Type 0 where
-  pub bytes : xs ≡ steps_spelled read.0 read.1
+  pub bytes : xs ≡ steps_bytes read.0 read.1
   pub well : AreWellSteps read.0 read.1
   pub few : length read.0 ≤ k
 
@@ -94,7 +94,7 @@ steps_sound (suc k) xs =
     holds_if (AreReadSteps (suc k) xs) _ _ _
     (λ _. holds_then (IsReadStep xs) (AreReadSteps (suc k) xs) _ _ (step_sound xs) (λ step p.
     holds_map (AreReadSteps k step.1) (AreReadSteps (suc k) xs) (steps_at k step.1) (λ r. (step.0 ∷ r.0, r.1)) (steps_sound k step.1) (λ read q. record {
-      bytes = p.0 ∙ ap (λ ys. step_spelled step.0 ys) q.bytes;
+      bytes = p.0 ∙ ap (λ ys. step_bytes step.0 ys) q.bytes;
       well = (subst (λ ys. IsWellStep step.0 ys) q.bytes p.1, q.well);
       few = omega (arith, q.few);
     })))
@@ -103,15 +103,15 @@ steps_sound (suc k) xs =
 at_most_4096 : (n m : ℕ) → nat_le n (m + 4096) ≡ true → n ≤ m + 4096
 at_most_4096 n m h = grind (arith, nat_tests)
 
-pub path_sound : (xs : List ℕ) → Holds (λ read. (xs ≡ path_spelled read.0 read.1) × IsPathBefore read.0 read.1) (path_at xs)
+pub path_sound : (xs : List ℕ) → Holds (λ read. (xs ≡ path_bytes read.0 read.1) × IsPathBefore read.0 read.1) (path_at xs)
 unfolding path_at
 path_sound xs =
-    holds_then _ (λ read. (xs ≡ path_spelled read.0 read.1) × IsPathBefore read.0 read.1) _ _ (holds_past 36 xs) (λ rest e.
-    holds_then _ (λ read. (xs ≡ path_spelled read.0 read.1) × IsPathBefore read.0 read.1) _ _ (steps_sound 64 rest) (λ read p.
-    holds_if (λ read. (xs ≡ path_spelled read.0 read.1) × IsPathBefore read.0 read.1) _ _ _
+    holds_then _ (λ read. (xs ≡ path_bytes read.0 read.1) × IsPathBefore read.0 read.1) _ _ (holds_past 36 xs) (λ rest e.
+    holds_then _ (λ read. (xs ≡ path_bytes read.0 read.1) × IsPathBefore read.0 read.1) _ _ (steps_sound 64 rest) (λ read p.
+    holds_if (λ read. (xs ≡ path_bytes read.0 read.1) × IsPathBefore read.0 read.1) _ _ _
     (λ f. let bytes = e ∙ ap (λ ys. 36 ∷ ys) p.bytes in
     let most : length xs ≤ length read.1 + 4096 = at_most_4096 (length xs) (length read.1) f in
-    let all : length xs ≡ length (path_spelled read.0 read.1) = ap (λ ys. length ys) bytes in
-    holds_some (λ read. (xs ≡ path_spelled read.0 read.1) × IsPathBefore read.0 read.1) read
+    let all : length xs ≡ length (path_bytes read.0 read.1) = ap (λ ys. length ys) bytes in
+    holds_some (λ read. (xs ≡ path_bytes read.0 read.1) × IsPathBefore read.0 read.1) read
     (bytes, record { well = p.well; few = p.few; short = omega (arith, path_length read.0 read.1) }))
     (λ _. holds_none _)))

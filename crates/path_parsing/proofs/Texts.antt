@@ -8,14 +8,14 @@ use Rattle.byte_parsing.specs.declared.refused.Refused.{Refused}
 use Rattle.byte_parsing.specs.declared.refused.Refused.TheVariants.{Fault, NoMemory}
 use Rattle.byte_parsing.proofs.Holds.{holds_past}
 use Rattle.query_tree.specs.declared.step.Step.{Step}
-use Rattle.path_parsing.specs.Grammar.{StepSyntax, path_of, steps_spelled, path_spelled, IsPathBefore, IsPath}
+use Rattle.path_parsing.specs.Grammar.{StepSyntax, path_of, steps_bytes, path_bytes, IsPathBefore, IsPath}
 use Rattle.path_parsing.specs.Reading.{steps_at, path_at}
 use Rattle.path_parsing.specs.Parses.{Parses}
 use Rattle.path_parsing.proofs.Complete.{path_complete}
 use Rattle.path_parsing.proofs.Lengths.{steps_length}
 use Rattle.path_parsing.proofs.Sound.{steps_sound, path_sound}
 
-pub path_sound_at : (xs : List ℕ) (ss : List StepSyntax) (after : List ℕ) → path_at xs ≡ Some (ss, after) → (xs ≡ path_spelled ss after) × IsPathBefore ss after
+pub path_sound_at : (xs : List ℕ) (ss : List StepSyntax) (after : List ℕ) → path_at xs ≡ Some (ss, after) → (xs ≡ path_bytes ss after) × IsPathBefore ss after
 path_sound_at xs ss after e = (path_sound xs).here (ss, after) e
 
 -- what was read, and the value of it
@@ -34,7 +34,7 @@ pub steps_within : (k : ℕ) (xs : List ℕ) (steps : List Step) (rest : List �
 steps_within k xs steps rest e =
     let r = was_read (steps_at k xs) steps rest e in
     let p = (steps_sound k xs).here (r.written, rest) r.read in
-    let all : length xs ≡ length (steps_spelled r.written rest) = ap (λ ys. length ys) p.bytes in
+    let all : length xs ≡ length (steps_bytes r.written rest) = ap (λ ys. length ys) p.bytes in
     omega (arith, steps_length r.written rest)
 
 past_length : (b : ℕ) (xs rest : List ℕ) → past b xs ≡ Some rest → length xs ≡ length rest + 1

@@ -32,18 +32,18 @@ PathSyntax = List StepSyntax
 
 -- The bytes, with `after` after them.
 
-abbrev pub step_spelled : StepSyntax → List ℕ → List ℕ
-step_spelled (dotted name) after = dot ∷ (name ++ after)
-step_spelled (quoted ps) after = open_bracket ∷ (quote ∷ pieces_spelled ps (close_bracket ∷ after))
-step_spelled (indexed digits) after = open_bracket ∷ (digits ++ close_bracket ∷ after)
-step_spelled starred after = open_bracket ∷ (star ∷ (close_bracket ∷ after))
+abbrev pub step_bytes : StepSyntax → List ℕ → List ℕ
+step_bytes (dotted name) after = dot ∷ (name ++ after)
+step_bytes (quoted ps) after = open_bracket ∷ (quote ∷ pieces_spelled ps (close_bracket ∷ after))
+step_bytes (indexed digits) after = open_bracket ∷ (digits ++ close_bracket ∷ after)
+step_bytes starred after = open_bracket ∷ (star ∷ (close_bracket ∷ after))
 
-abbrev pub steps_spelled : PathSyntax → List ℕ → List ℕ
-steps_spelled [] after = after
-steps_spelled (s ∷ ss) after = step_spelled s (steps_spelled ss after)
+abbrev pub steps_bytes : PathSyntax → List ℕ → List ℕ
+steps_bytes [] after = after
+steps_bytes (s ∷ ss) after = step_bytes s (steps_bytes ss after)
 
-abbrev pub path_spelled : PathSyntax → List ℕ → List ℕ
-path_spelled ss after = dollar ∷ steps_spelled ss after
+abbrev pub path_bytes : PathSyntax → List ℕ → List ℕ
+path_bytes ss after = dollar ∷ steps_bytes ss after
 
 -- What the grammar asks.
 
@@ -55,13 +55,13 @@ IsWellStep starred after = Unit {0}
 
 abbrev pub AreWellSteps : PathSyntax → List ℕ → Type 0
 AreWellSteps [] after = Unit {0}
-AreWellSteps (s ∷ ss) after = IsWellStep s (steps_spelled ss after) × AreWellSteps ss after
+AreWellSteps (s ∷ ss) after = IsWellStep s (steps_bytes ss after) × AreWellSteps ss after
 
 -- a path with `after` after it, within the limits
 pub record IsPathBefore (ss : PathSyntax) (after : List ℕ) : Type 0 where
   pub well : AreWellSteps ss after
   pub few : length ss ≤ most_steps
-  pub short : length (path_spelled ss []) ≤ most_bytes
+  pub short : length (path_bytes ss []) ≤ most_bytes
 
 -- What it means.
 
@@ -77,6 +77,6 @@ path_of ss = map step_of ss
 -- a text is a path of these steps
 pub record IsPath (text : List ℕ) (steps : List Step) : Type 0 where
   pub written : PathSyntax
-  pub bytes : text ≡ path_spelled written []
+  pub bytes : text ≡ path_bytes written []
   pub is_path : IsPathBefore written []
   pub means : steps ≡ path_of written

@@ -31,12 +31,12 @@ inside_at [] = None
 inside_at (x ∷ xs) = if x == quote then string_step xs else (if x == star then Some (starred, xs) else index_at (x ∷ xs))
 
 -- what is read, if a closing bracket comes after it
-abbrev pub bracketed : Option (StepSyntax × List ℕ) → Option (StepSyntax × List ℕ)
-bracketed read = and_then read (λ r. option_map (λ rest. (r.0, rest)) (past close_bracket r.1))
+abbrev pub in_brackets : Option (StepSyntax × List ℕ) → Option (StepSyntax × List ℕ)
+in_brackets read = and_then read (λ r. option_map (λ rest. (r.0, rest)) (past close_bracket r.1))
 
 -- after an opening bracket
 abbrev pub bracket_at : Parse StepSyntax
-bracket_at xs = bracketed (inside_at xs)
+bracket_at xs = in_brackets (inside_at xs)
 
 -- a dot or a bracket: the bytes with which steps begin
 abbrev pub begins_step : List ℕ → Bool

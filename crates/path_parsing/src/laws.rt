@@ -6,18 +6,18 @@ ghost use Rattle.std.specs.List.{AllByRecursion};
 ghost use Rattle.query_tree.specs.PathText.{path_text};
 ghost use Rattle.query_tree.specs.declared.step.Step.{Step};
 ghost use Rattle.path_parsing.specs.Canonical.{IsWritable};
-ghost use Rattle.path_parsing.specs.Grammar.{PathSyntax, path_spelled, IsPathBefore, IsPath};
+ghost use Rattle.path_parsing.specs.Grammar.{PathSyntax, path_bytes, IsPathBefore, IsPath};
 ghost use Rattle.path_parsing.specs.Limits.{most_steps, most_bytes};
 ghost use Rattle.path_parsing.specs.Reading.{begins_step, path_at};
 
 /// A path is read, whatever comes after it that begins no step.
 pub fn paths_are_complete()
-    ensures { (ss : PathSyntax) (after : List ℕ) → IsPathBefore ss after → begins_step after ≡ false → path_at (path_spelled ss after) ≡ Some (ss, after) }
+    ensures { (ss : PathSyntax) (after : List ℕ) → IsPathBefore ss after → begins_step after ≡ false → path_at (path_bytes ss after) ≡ Some (ss, after) }
 {}
 
 /// What is read is a path, and is written there.
 pub fn paths_are_sound()
-    ensures { (xs : List ℕ) (ss : PathSyntax) (after : List ℕ) → path_at xs ≡ Some (ss, after) → (xs ≡ path_spelled ss after) × IsPathBefore ss after }
+    ensures { (xs : List ℕ) (ss : PathSyntax) (after : List ℕ) → path_at xs ≡ Some (ss, after) → (xs ≡ path_bytes ss after) × IsPathBefore ss after }
 {}
 
 /// A text is a path of one list of steps at most.
