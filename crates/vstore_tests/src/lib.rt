@@ -1,22 +1,17 @@
-//! Tests of the whole program over objects in memory, and of each public call that takes memory.
+//! Tests of the whole program over objects in memory.
 //!
-//! They stand here because a crate with tests is proved twice.
+//! They stand apart because a crate with tests is proved twice.
 //!
 //! | Module | What it shows |
 //! |---|---|
-//! | `rows` | words and input, and what is printed |
-//! | `queries` | words, paths and filters: what a query answers, and which words are none |
+//! | `rows` | lines, values and faults: what is printed for an input |
+//! | `limits` | the depth of a line, its length, output of many pieces |
 //! | `devices` | each read and each write failing in turn, and sources and sinks in pieces |
-//! | `calls` | public calls of the libraries on their happy path |
 #![tactic(auto)]
 
 #[cfg(test)]
-mod calls;
-#[cfg(test)]
 mod devices;
 #[cfg(test)]
-mod queries;
+mod limits;
 #[cfg(test)]
 mod rows;
-#[cfg(test)]
-mod runs;
