@@ -4,7 +4,6 @@ use std::alloc::Global;
 use std::process::Abort;
 use std::test::Fail;
 use test_runs::{Wrong, check, check_piece, check_rows, repeated, run, words_of};
-use variant_store::Word;
 use vs_bytes::{NoMemory, Text};
 
 // A row: path, input, output. A path with a star always shows its matches, which may be none.
@@ -185,7 +184,7 @@ fn a_path_has_at_most_4096_bytes(rt: HostRuntime) -> Result<(), Fail> {
 }
 
 // `scan` and so many paths, `$[0]` first.
-fn many_paths(alloc: Global, count: usize) -> Result<Vec<Word>, NoMemory> {
+fn many_paths(alloc: Global, count: usize) -> Result<Vec<Text>, NoMemory> {
     let mut words = words_of(alloc, &["scan"])?;
     for path in 0..count {
         words.push(Text::from_string(format!(in alloc; "$[{path}]")?))?;
