@@ -1,8 +1,6 @@
 //! What a scan does with each document: its line is gathered, and written in pieces.
 
-ghost use Rattle.std.specs.Prelude.{◌≡◌, ◌∷◌, ◌++◌, [], ℕ, List};
 ghost use Rattle.outside.specs.Output.{output_of};
-ghost use Rattle.query_tree.specs.Asked.{query_of};
 ghost use Rattle.variant_store.specs.Gathering.{Gathers, GathersPart};
 ghost use Rattle.variant_store.specs.Beginning.{gathers_nothing};
 
