@@ -1,5 +1,5 @@
 -- A quoted string within bytes: what is read of it stands there, and what stands there is read.
-use Rattle.std.proofs.Common.{◌≡◌, ◌∙◌, refl, sym, ap, ℕ, ◌-◌, ◌≤◌, List, [], ◌∷◌, ◌++◌, Bool, Option, Some, None, take, drop, length, append_assoc, length-append, arith}
+use Rattle.std.proofs.Common.{◌≡◌, ◌∙◌, refl, sym, ap, ℕ, zero, suc, ◌-◌, ◌<◌, ◌≤◌, List, [], ◌∷◌, ◌++◌, Bool, Option, Some, None, take, drop, length, append_assoc, length-append, arith}
 use Rattle.std.specs.Option.{option_map}
 use Rattle.std.proofs.Math.Seq.{drop-append_seam}
 use Rattle.std.proofs.lemmas.List.{take-append-drop}
@@ -50,3 +50,12 @@ none_there bytes behind text at x e f h after meant lone s =
     let read : string_at text ≡ Some (s.pieces, drop after bytes) = rw tail (string_complete s.pieces (drop after bytes) s.is_string) in
     let wrong : ◌≡◌ {A = Option Quote} (Some (text_of s.pieces, lone_of s.pieces, drop after bytes)) None = sym (ap (λ o. option_map {U = Quote} (λ r. (text_of r.0, lone_of r.0, r.1)) o) read) ∙ h in
     cc
+
+drop_past : (n : ℕ) (xs : List ℕ) → length xs < n → drop n xs ≡ []
+drop_past zero xs h = absurd (omega arith)
+drop_past (suc n) [] h = refl
+drop_past (suc n) (x ∷ xs) h = drop_past n xs (omega arith)
+
+-- no string begins past the end
+pub none_past : (bytes : List ℕ) (at : ℕ) → length bytes < at → (after : ℕ) (meant : List ℕ) (lone : Bool) → IsStringAt bytes at after meant lone → ⊥
+none_past bytes at h after meant lone s = let wrong : [] ≡ 34 ∷ pieces_spelled s.pieces (drop after bytes) = sym (drop_past at bytes h) ∙ s.spelled in cc

@@ -1,6 +1,6 @@
 //! Quoted strings (RFC 8259, section 7).
 
-ghost use Rattle.std.specs.Prelude.{◌≡◌, ◌<◌, ◌≤◌, ℕ, List, Bool, true, false, Some, length, IfOk, IsErrOf};
+ghost use Rattle.std.specs.Prelude.{◌≡◌, ◌<◌, ℕ, List, Bool, true, false, Some, length, IfOk, IsErrOf};
 ghost use Rattle.std.specs.Str.{IsUtf8};
 ghost use Rattle.json_strings.specs.Content.{plain_state, quote_from, if_utf8, only_utf8};
 ghost use Rattle.json_strings.specs.Places.{IsStringAt};
@@ -134,14 +134,16 @@ pub fn read_quoted<'a>(alloc: Global, text: &'a [u8]) -> Result<Quoted<'a>, Quot
     read_any(alloc, text)
 }
 
-/// Reads the quoted string that begins with its quote at `at`, and gives its text and the place behind
-/// its closing quote.
+/// Reads the quoted string that begins with its quote at `at`, and gives its text and the place after
+/// its closing quote. None begins past the end of the bytes.
 pub fn read_string(alloc: Global, bytes: &[u8], at: usize) -> Result<(Text, usize), StringFault>
-    requires { at ≤ length bytes.now }
     ensures text { IfOk result (λ read. IsStringAt bytes.now at read.1 read.0 false) }
     ensures none { IsErrOf result StringFault.NotString → (after : ℕ) (text : List ℕ) (lone : Bool) → IsStringAt bytes.now at after text lone → ⊥ }
     ensures lone { IsErrOf result StringFault.LoneSurrogate → (after : ℕ) × (text : List ℕ) × IsStringAt bytes.now at after text true }
 {
+    if at > bytes.len() {
+        return Err(StringFault::NotString);
+    }
     let (_, behind) = bytes.split_at(at);
     let Some((first, text)) = behind.split_first() else {
         return Err(StringFault::NotString);

@@ -1,6 +1,6 @@
-use Rattle.std.proofs.Common.{◌-◌, true, false, length}
+use Rattle.std.proofs.Common.{◌-◌, true, false, length, arith}
 use Rattle.json_strings.specs.Shown.{quote}
-use Rattle.json_strings.proofs.Within.{string_there, none_there}
+use Rattle.json_strings.proofs.Within.{string_there, none_there, none_past}
 use Rattle.json_strings.proofs.reader.read_string.Goals as goal
 
 pub returns-else-quoted-clause-text : goal.returns-else-quoted-clause-text
@@ -17,3 +17,6 @@ returns-then-quoted-clause-lone c = λ _. (
 pub returns-in-Err-NotString-clause-none : goal.returns-in-Err-NotString-clause-none
 returns-in-Err-NotString-clause-none c = λ _.
     none_there c.args.bytes.now c.split_at.result.1.now c.in-Some.text.now c.args.at _ c.split_at.ensures.back c.in-Some.ensures.cases.0 (rw c.in-Err-NotString.field-0-is at c.in-Err-NotString.ensures.told)
+
+pub returns-then-at-bytes-clause-none : goal.returns-then-at-bytes-clause-none
+returns-then-at-bytes-clause-none c = λ _. none_past c.args.bytes.now c.args.at (omega arith)
