@@ -1,16 +1,9 @@
 -- When two trees have the same value.
 use Rattle.std.proofs.Common.{◌≡◌, ◌∙◌, ◌↔◌, ℕ, zero, suc, ◌<◌, Bool, IsTrue, List, [], ◌∷◌, length, get_or, map, refl, sym, ap, arith, rules}
 use Rattle.json_tree.specs.Json.{Json, array, object, Parts, Fields, parts_of, fields_of}
-use Rattle.json_tree.specs.View.{view, seen, items_view, members_view}
-use Rattle.json_tree.specs.declared.types.Tree.{Tree, Array, Object, the_lemmas}
-use Rattle.json_tree.specs.declared.types.Items.{Items}
-use Rattle.json_tree.specs.declared.types.Members.{Members}
-
-view_array : (items : Items) → view (Array items) ≡ array (items_view items)
-view_array items = search (rules, the_lemmas)
-
-view_object : (members : Members) → view (Object members) ≡ object (members_view members)
-view_object members = search (rules, the_lemmas)
+use Rattle.json_tree.specs.View.{view, seen}
+use Rattle.json_tree.specs.declared.types.Tree.{Tree}
+use Rattle.json_tree.specs.declared.types.Tree.TheVariants.{Array, Object}
 
 parts_same : (xs ys : List Json) → parts_of xs ≡ parts_of ys → xs ≡ ys
 parts_same [] [] e = refl
@@ -33,19 +26,19 @@ fields_same (x ∷ xs) (y ∷ ys) e =
     let same : xs ≡ ys = fields_same xs ys rest in
     λ i. (name i, value i) ∷ same i
 
-pub array_same : (a b : Tree) (x y : Items) (xs ys : List Tree) (r : Bool) → a ≡ Array x → b ≡ Array y → items_view x ≡ parts_of (map view xs) → items_view y ≡ parts_of (map view ys) → (IsTrue r ↔ (map view xs ≡ map view ys)) → (IsTrue r ↔ (view a ≡ view b))
+pub array_same : (a b : Tree) (x y : Parts) (xs ys : List Tree) (r : Bool) → a ≡ Array x → b ≡ Array y → x ≡ parts_of (map view xs) → y ≡ parts_of (map view ys) → (IsTrue r ↔ (map view xs ≡ map view ys)) → (IsTrue r ↔ (view a ≡ view b))
 array_same a b x y xs ys r p q e f h =
-    let left : view a ≡ array (parts_of (map view xs)) = ap view p ∙ view_array x ∙ ap array e in
-    let right : view b ≡ array (parts_of (map view ys)) = ap view q ∙ view_array y ∙ ap array f in
+    let left : view a ≡ array (parts_of (map view xs)) = ap view p ∙ ap array e in
+    let right : view b ≡ array (parts_of (map view ys)) = ap view q ∙ ap array f in
     (λ t. left ∙ ap (λ js. array (parts_of js)) (h.0 t) ∙ sym right, λ v. h.1 (parts_same (map view xs) (map view ys) (inner (parts_of (map view xs)) (parts_of (map view ys)) (sym left ∙ v ∙ right))))
   where
     inner : (ps qs : Parts) → array ps ≡ array qs → ps ≡ qs
     inner ps qs e = cc
 
-pub object_same : (a b : Tree) (x y : Members) (xs ys : List (List ℕ × Tree)) (r : Bool) → a ≡ Object x → b ≡ Object y → members_view x ≡ fields_of (map seen xs) → members_view y ≡ fields_of (map seen ys) → (IsTrue r ↔ (map seen xs ≡ map seen ys)) → (IsTrue r ↔ (view a ≡ view b))
+pub object_same : (a b : Tree) (x y : Fields) (xs ys : List (List ℕ × Tree)) (r : Bool) → a ≡ Object x → b ≡ Object y → x ≡ fields_of (map seen xs) → y ≡ fields_of (map seen ys) → (IsTrue r ↔ (map seen xs ≡ map seen ys)) → (IsTrue r ↔ (view a ≡ view b))
 object_same a b x y xs ys r p q e f h =
-    let left : view a ≡ object (fields_of (map seen xs)) = ap view p ∙ view_object x ∙ ap object e in
-    let right : view b ≡ object (fields_of (map seen ys)) = ap view q ∙ view_object y ∙ ap object f in
+    let left : view a ≡ object (fields_of (map seen xs)) = ap view p ∙ ap object e in
+    let right : view b ≡ object (fields_of (map seen ys)) = ap view q ∙ ap object f in
     (λ t. left ∙ ap (λ ms. object (fields_of ms)) (h.0 t) ∙ sym right, λ v. h.1 (fields_same (map seen xs) (map seen ys) (inner (fields_of (map seen xs)) (fields_of (map seen ys)) (sym left ∙ v ∙ right))))
   where
     inner : (fs gs : Fields) → object fs ≡ object gs → fs ≡ gs

@@ -5,3 +5,4 @@ pub mod MembersOrder
 pub mod NameSearch
 pub mod QuotedStrings
 pub mod Views
+pub mod ValidParts

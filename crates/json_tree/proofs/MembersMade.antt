@@ -13,7 +13,8 @@ use Rattle.vs_bytes.specs.Names.{repeats}
 use Rattle.json_tree.specs.Json.{Json, fields_of, names_of}
 use Rattle.json_tree.specs.Order.{sorted, NamesRise}
 use Rattle.json_tree.specs.View.{seen}
-use Rattle.json_tree.specs.declared.types.Tree.{Tree, Null}
+use Rattle.json_tree.specs.declared.types.Tree.{Tree}
+use Rattle.json_tree.specs.declared.types.Tree.TheVariants.{Null}
 use Rattle.json_tree.proofs.MembersOrder.{order, Rise, names_in, no_repeats, rise_from_sorted, sorted_is}
 
 abbrev pub names : List (List ℕ × Tree) → List (List ℕ)

@@ -13,12 +13,11 @@ use Rattle.std.proofs.lemmas.List.Sorted.{searchable_from_sorted}
 use Rattle.std.proofs.lemmas.Map.Keys.{sorted_tail, Less-from_sorted}
 use Rattle.json_tree.specs.Json.{fields_of, names_of}
 use Rattle.json_tree.specs.Order.{member_of, NamesRise}
-use Rattle.json_tree.specs.View.{view, seen, members_view}
-use Rattle.json_tree.specs.declared.types.Tree.{Tree, Null}
-use Rattle.json_tree.specs.declared.types.Members.{Members}
+use Rattle.json_tree.specs.View.{view, seen}
+use Rattle.json_tree.specs.declared.types.Tree.{Tree}
+use Rattle.json_tree.specs.declared.types.Tree.TheVariants.{Null}
 use Rattle.json_tree.proofs.MembersOrder.{order, turned, Rise}
 use Rattle.json_tree.proofs.MembersMade.{names, name_at, member_names}
-use Rattle.json_tree.proofs.Views.{members_is}
 
 tied_name : (a b : List ℕ) → order a b ≡ Equal → bytes_eq a b ≡ true
 tied_name a b e = texts_ties a b ∙ ap is_eq e
@@ -73,16 +72,13 @@ not_among name ps i h told =
       | inr back ↦ greater_not_equal (order (get_or ps k ([], Null)).0 name) (point.1 k ([], Null) back within) e
     ])
 
-pub rise_of : (m : Members) → NamesRise (members_view m) → Rise (names m.pairs)
-rise_of m h = subst Rise (ap names_of (members_is m) ∙ member_names m.pairs) h
+pub rise_of : (ps : List (List ℕ × Tree)) → NamesRise (fields_of (map seen ps)) → Rise (names ps)
+rise_of ps h = subst Rise (member_names ps) h
 
-pub got : (m : Members) (name : List ℕ) (ps : List (List ℕ × Tree)) (i : ℕ) (p : List ℕ × Tree) → ps ≡ m.pairs → NamesRise (members_view m) → i < length ps → p ≡ get_or ps i p → HoldsAt (λ y. order y.0 name ≡ Equal) ps i → Some (view (get_or ps i p).1) ≡ member_of name (members_view m)
-got m name ps i p same h within e told =
-    let rise : Rise (names ps) = rw same (rise_of m h) in
+pub got : (name : List ℕ) (ps : List (List ℕ × Tree)) (i : ℕ) (p : List ℕ × Tree) → NamesRise (fields_of (map seen ps)) → i < length ps → p ≡ get_or ps i p → HoldsAt (λ y. order y.0 name ≡ Equal) ps i → Some (view (get_or ps i p).1) ≡ member_of name (fields_of (map seen ps))
+got name ps i p h within e told =
     let tie : order p.0 name ≡ Equal = ap (λ (x : List ℕ × Tree). order x.0 name) e ∙ told p in
-    ap (λ (x : List ℕ × Tree). Some (view x.1)) (sym e) ∙ sym (found_member name ps i p rise within e tie) ∙ ap (λ qs. member_of name (fields_of (map seen qs))) same ∙ ap (member_of name) (sym (members_is m))
+    ap (λ (x : List ℕ × Tree). Some (view x.1)) (sym e) ∙ sym (found_member name ps i p (rise_of ps h) within e tie)
 
-pub got_none : (m : Members) (name : List ℕ) (ps : List (List ℕ × Tree)) (i : ℕ) → ps ≡ m.pairs → NamesRise (members_view m) → (IsNonDecreasingBy (λ y. ordering_index (order y.0 name)) ps → IsPartitionPoint (λ y. order y.0 name ≡ Less) (λ y. order y.0 name ≡ Greater) ps i) → None ≡ member_of name (members_view m)
-got_none m name ps i same h told =
-    let rise : Rise (names ps) = rw same (rise_of m h) in
-    sym (not_among name ps i rise told) ∙ ap (λ qs. member_of name (fields_of (map seen qs))) same ∙ ap (member_of name) (sym (members_is m))
+pub got_none : (name : List ℕ) (ps : List (List ℕ × Tree)) (i : ℕ) → NamesRise (fields_of (map seen ps)) → (IsNonDecreasingBy (λ y. ordering_index (order y.0 name)) ps → IsPartitionPoint (λ y. order y.0 name ≡ Less) (λ y. order y.0 name ≡ Greater) ps i) → None ≡ member_of name (fields_of (map seen ps))
+got_none name ps i h told = sym (not_among name ps i (rise_of ps h) told)

@@ -1,8 +1,9 @@
 //! Copies of trees.
 
 ghost use Rattle.std.specs.Prelude.{◌≡◌, map, IfOk};
-ghost use Rattle.json_tree.specs.Json.{parts_of, fields_of};
-ghost use Rattle.json_tree.specs.View.{view, items_view, members_view, seen};
+ghost use Rattle.json_tree.specs.Json.{object, parts_of, fields_of};
+ghost use Rattle.json_tree.specs.Valid.{IsValid};
+ghost use Rattle.json_tree.specs.View.{view, seen};
 
 use crate::types::{Items, Members, Tree};
 use std::alloc::Global;
@@ -25,7 +26,7 @@ pub fn copy(alloc: Global, tree: &Tree) -> Result<Tree, NoMemory>
 
 #[cycle(copy)]
 fn copy_items(alloc: Global, trees: &[Tree]) -> Result<Items, NoMemory>
-    ensures { IfOk result (λ items. items_view items ≡ parts_of (map view trees.now)) }
+    ensures { IfOk result (λ items. items ≡ parts_of (map view trees.now)) }
 {
     let mut copies = Vec::with_capacity(alloc, trees.len())?;
     for tree in trees {
@@ -36,12 +37,13 @@ fn copy_items(alloc: Global, trees: &[Tree]) -> Result<Items, NoMemory>
 
 #[cycle(copy)]
 fn copy_members(alloc: Global, pairs: &[(Text, Tree)]) -> Result<Members, NoMemory>
-    ensures { IfOk result (λ members. members_view members ≡ fields_of (map seen pairs.now)) }
+    requires { IsValid (object (fields_of (map seen pairs.now))) }
+    ensures { IfOk result (λ members. members ≡ fields_of (map seen pairs.now)) }
 {
     let mut copies = Vec::with_capacity(alloc, pairs.len())?;
     for pair in pairs {
         let name = Text::from_str(alloc, pair.0.as_str())?;
         copies.push((name, copy(alloc, &pair.1)?))?;
     }
-    Ok(Members::from_ordered(copies))
+    Ok(Members::from_valid(copies))
 }

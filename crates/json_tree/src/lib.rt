@@ -9,7 +9,8 @@
 //! | `depths` | `depth`: how deep a tree nests |
 //! | `copies` | `copy`: a tree of the same value |
 //! | `sameness` | `same`: whether two trees have the same value |
-//! | `laws` | a printed text is a string that means it |
+//! | `validity` | `tree_is_valid`: what holds of every tree |
+//! | `laws` | what is valid, by its parts; a printed text is a string that means it |
 #![tactic(auto)]
 
 mod copies;
@@ -20,12 +21,14 @@ mod name_order;
 mod printing;
 mod sameness;
 mod types;
+mod validity;
 
 pub use copies::copy;
 pub use depths::depth;
 pub use exact_num::Number;
-pub use laws::printed_texts_are_strings;
+pub use laws::{array_is_valid, object_is_valid, printed_texts_are_strings, valid_is_ordered};
 pub use lengths::text_len;
 pub use printing::{print, print_quoted, print_text};
 pub use sameness::same;
 pub use types::{Items, Members, MembersFault, Tree};
+pub use validity::tree_is_valid;
