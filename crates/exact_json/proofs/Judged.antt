@@ -1,11 +1,10 @@
 -- The judgement of a line is what the line is: the value that it spells, or its first fault.
-use Rattle.std.proofs.Common.{◌≡◌, ◌∙◌, ◌⊎◌, inl, inr, ⊎_elim, refl, sym, ap, subst, ℕ, ◌≤◌, ◌<◌, ◌==◌, nat_le, List, [], ◌∷◌, Bool, true, false, cond, Option, Some, None, Result, Ok, Err, IfOk, length, arith}
+use Rattle.std.proofs.Common.{◌≡◌, ◌∙◌, ◌⊎◌, inl, inr, ⊎_elim, refl, sym, ap, subst, ℕ, ◌≤◌, ◌<◌, ◌==◌, nat_le, List, [], ◌∷◌, Bool, true, false, cond, Option, Some, None, Result, Ok, Err, length, arith}
 use Rattle.std.specs.Str.{is_utf8, IsUtf8}
 use Rattle.std.proofs.lemmas.Bool.{cases_Bool}
 use Rattle.std.proofs.lemmas.Bool.Decides.{nat_tests}
 use Rattle.std.proofs.lemmas.Str.{is_utf8-from_IsUtf8, IsUtf8-from_is_utf8}
 use Rattle.json_tree.specs.Json.{Json}
-use Rattle.json_tree.specs.Order.{IsOrdered}
 use Rattle.json_grammar.specs.Grammar.{Written, IsWrittenAs, nesting}
 use Rattle.json_grammar.specs.Reading.{and_then, past_gap, is_empty, value_at, document_at}
 use Rattle.json_grammar.proofs.Lines.{line_complete, line_sound}
@@ -18,7 +17,6 @@ use Rattle.exact_json.specs.declared.fault.DocFault.{DocFault}
 use Rattle.exact_json.specs.declared.fault.DocFault.TheVariants.{LineTooLong, NotUtf8, TooDeep, NotJson, LoneSurrogate, DuplicateKey, NumberTooWide, NoMemory}
 use Rattle.exact_json.proofs.Depths.{line_deep}
 use Rattle.exact_json.proofs.Joining.{joined_before}
-use Rattle.exact_json.proofs.Ordered.{ordered}
 
 -- The tests of a line.
 
@@ -187,10 +185,6 @@ answers view line (Err LoneSurrogate) e = subst (AnswerOf line) e (answered line
 answers view line (Err DuplicateKey) e = subst (AnswerOf line) e (answered line)
 answers view line (Err NumberTooWide) e = subst (AnswerOf line) e (answered line)
 answers view line (Err NoMemory) e = tt
-
-pub answers_ordered : {A : Type 0} (view : A → Json) (line : List ℕ) (result : Result A DocFault) → Answers view line result → IfOk result (λ tree. IsOrdered (view tree))
-answers_ordered view line (Ok tree) s = rw s.value (ordered s.is_json.way)
-answers_ordered view line (Err fault) s = tt
 
 -- of a line that isn't too long and is UTF-8
 pub judged_text_is : (line : List ℕ) → length line ≤ max_line → IsUtf8 line → judged line ≡ judged_text line

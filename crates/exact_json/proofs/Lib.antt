@@ -3,7 +3,6 @@ pub mod NumberTold
 pub mod Turns
 pub mod Objects
 pub mod Depths
-pub mod Ordered
 pub mod Judged
 pub mod Walks
 pub mod TextAscii

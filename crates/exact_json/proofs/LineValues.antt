@@ -1,5 +1,5 @@
 -- The value of a line: its numbers, texts and names, their order and its depth.
-use Rattle.std.proofs.Common.{◌≡◌, ◌∙◌, refl, sym, ap, subst, ℕ, ◌+◌, ◌^◌, ◌%◌, ◌<◌, ◌≤◌, max, nat_lt, nat_le, ◌&&◌, List, [], ◌∷◌, map, Bool, true, false, cond, Option, Some, None, ok_or, unsigned_abs, arith}
+use Rattle.std.proofs.Common.{◌≡◌, ◌∙◌, refl, sym, ap, subst, ℕ, ◌+◌, ◌^◌, ◌%◌, ◌<◌, ◌≤◌, max, nat_lt, nat_le, ◌&&◌, List, [], ◌∷◌, map, Bool, true, false, cond, Option, Some, None, ok_or, Ok, Err, Result, IfOk, unsigned_abs, arith}
 use Rattle.std.specs.Str.{is_utf8}
 use Rattle.std.specs.Cmp.Lexicographic.{slice_cmp}
 use Rattle.std.specs.Ordering.{nat_cmp, is_lt}
@@ -20,10 +20,13 @@ use Rattle.json_grammar.specs.Grammar.{Written, Elements, no_elements, first_ele
 use Rattle.json_tree.specs.Json.{Json, null, object, depth_of, parts_depth, fields_depth, fields_of}
 use Rattle.json_tree.specs.Order.{inserted, sorted}
 use Rattle.json_tree.specs.Text.{text_of}
-use Rattle.exact_json.specs.Document.{IsValid, AreValid, HoldValid, IsLineValue, IsDocument}
-use Rattle.exact_json.specs.Meaning.{Spells, tree_of, number_of, number_or_null, object_or_null, parts_in, more_parts_in, pair_in, pairs_in, more_pairs_in}
+use Rattle.json_tree.specs.Order.{IsOrdered}
+use Rattle.json_tree.specs.Valid.{IsValid, AreValid, HoldValid}
+use Rattle.json_tree.proofs.ValidParts.{members_valid, valid_ordered}
+use Rattle.exact_json.specs.Document.{IsLineValue, IsDocument}
+use Rattle.exact_json.specs.Meaning.{Spells, Denotes, Answers, tree_of, number_of, number_or_null, object_or_null, parts_in, more_parts_in, pair_in, pairs_in, more_pairs_in}
+use Rattle.exact_json.specs.declared.fault.DocFault.{DocFault}
 use Rattle.exact_json.proofs.Depths.{line_deep}
-use Rattle.exact_json.proofs.Ordered.{ordered}
 
 -- a number that is read is admitted, and in least scale
 
@@ -64,19 +67,7 @@ number_valid s = by (number_of s) refl
     by None e = tt
     by (Some d) e = read_admitted s d e
 
--- members in order are valid as they were, and nest no deeper
-
-inserted_valid : (m : List ℕ × Json) (ms : List (List ℕ × Json)) → is_utf8 m.0 ≡ true → IsValid m.1 → HoldValid (fields_of ms) → HoldValid (fields_of (inserted m ms))
-inserted_valid m [] u v h = (u, v, tt)
-inserted_valid m (other ∷ ms) u v h = by (is_lt (slice_cmp nat_cmp m.0 other.0)) (inserted_valid m ms u v h.2)
-  where
-    by : (b : Bool) → HoldValid (fields_of (inserted m ms)) → HoldValid (fields_of (cond b (m ∷ (other ∷ ms)) (other ∷ inserted m ms)))
-    by true rest = (u, v, h)
-    by false rest = (h.0, h.1, rest)
-
-sorted_valid : (ms : List (List ℕ × Json)) → HoldValid (fields_of ms) → HoldValid (fields_of (sorted ms))
-sorted_valid [] h = tt
-sorted_valid (m ∷ ms) h = inserted_valid m (sorted ms) h.0 h.1 (sorted_valid ms h.2)
+-- members in order nest no deeper
 
 inserted_depth : (m : List ℕ × Json) (ms : List (List ℕ × Json)) → fields_depth (fields_of (inserted m ms)) ≤ max (depth_of m.1) (fields_depth (fields_of ms))
 inserted_depth m [] = omega arith
@@ -91,11 +82,11 @@ sorted_depth [] = omega arith
 sorted_depth (m ∷ ms) = omega (arith, inserted_depth m (sorted ms), sorted_depth ms)
 
 object_valid : (ms : List (List ℕ × Json)) → HoldValid (fields_of ms) → IsValid (object_or_null ms)
-object_valid ms h = by (repeats (map (λ m. m.0) ms))
+object_valid ms h = by (repeats (map (λ m. m.0) ms)) refl
   where
-    by : (b : Bool) → IsValid (cond b null (object (fields_of (sorted ms))))
-    by true = tt
-    by false = sorted_valid ms h
+    by : (b : Bool) → repeats (map (λ m. m.0) ms) ≡ b → IsValid (cond b null (object (fields_of (sorted ms))))
+    by true e = tt
+    by false e = members_valid ms e h
 
 object_depth : (ms : List (List ℕ × Json)) → depth_of (object_or_null ms) ≤ fields_depth (fields_of ms) + 1
 object_depth ms = by (repeats (map (λ m. m.0) ms))
@@ -109,7 +100,7 @@ number_depth None = omega arith
 number_depth (Some d) = omega arith
 
 mutual
-  valid : (w : Written) → IsWell w → IsValid (tree_of w)
+  pub valid : (w : Written) → IsWell w → IsValid (tree_of w)
   valid written.null h = tt
   valid (written.boolean b) h = tt
   valid (written.number s) h = number_valid s
@@ -171,9 +162,15 @@ line_value line json s =
     let few : nesting j.way ≤ 64 = grind (arith, nat_tests) in
     subst IsLineValue (sym s.value) (record {
       valid = valid j.way j.is_written.is_well;
-      ordered = ordered j.way;
       shallow = omega (arith, within j.way, few);
     })
 
 pub document : (json : Json) → Spells (text_of json) json → IsDocument json
 document json s = record { is_line_value = line_value (text_of json) json s; short = s.is_json.is_short_text.short }
+
+pub denoted_valid : (bytes : List ℕ) (json : Json) → Denotes bytes json → IsValid json
+denoted_valid bytes json s = subst IsValid (sym s.value) (valid s.way s.is_written.is_well)
+
+pub answers_ordered : {A : Type 0} (view : A → Json) (line : List ℕ) (result : Result A DocFault) → Answers view line result → IfOk result (λ tree. IsOrdered (view tree))
+answers_ordered view line (Ok tree) s = valid_ordered (view tree) (line_value line (view tree) s).valid
+answers_ordered view line (Err fault) s = tt

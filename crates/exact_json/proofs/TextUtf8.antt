@@ -4,7 +4,7 @@ use Rattle.std.specs.Str.{IsUtf8}
 use Rattle.std.proofs.lemmas.Str.{IsUtf8-append, IsUtf8-nil}
 use Rattle.json_tree.specs.Json.{Json, null, boolean, number, text, array, object, Parts, no_parts, part, Fields, no_fields, field}
 use Rattle.json_tree.specs.Text.{text_of, parts_text, more_parts, fields_text, more_fields, quoted}
-use Rattle.exact_json.specs.Document.{IsValid, AreValid, HoldValid}
+use Rattle.json_tree.specs.Valid.{IsValid, AreValid, HoldValid}
 use Rattle.exact_json.proofs.TextAscii.{ascii_is_utf8, number_is_utf8, quoted_is_utf8}
 use Rattle.exact_json.proofs.TextNumbers.{text_well}
 
@@ -23,7 +23,7 @@ mutual
   utf8 (number d) h = number_is_utf8 (text_of (number d)) (text_well d h)
   utf8 (text s) h = quoted_is_utf8 s h
   utf8 (array ps) h = led 91 (parts_text ps ++ 93 ∷ []) (omega arith) (IsUtf8-append (parts_text ps) (93 ∷ []) (parts_utf8 ps h) (one_is_utf8 93 (omega arith)))
-  utf8 (object fs) h = led 123 (fields_text fs ++ 125 ∷ []) (omega arith) (IsUtf8-append (fields_text fs) (125 ∷ []) (fields_utf8 fs h) (one_is_utf8 125 (omega arith)))
+  utf8 (object fs) h = led 123 (fields_text fs ++ 125 ∷ []) (omega arith) (IsUtf8-append (fields_text fs) (125 ∷ []) (fields_utf8 fs h.1) (one_is_utf8 125 (omega arith)))
 
   parts_utf8 : (ps : Parts) → AreValid ps → IsUtf8 (parts_text ps)
   parts_utf8 no_parts h = IsUtf8-nil

@@ -112,6 +112,13 @@ abbrev mutual
   more_entries_flaws end_entries = flawless
   more_entries_flaws (next_entry before e gap es) = joined (entry_flaws e) (more_entries_flaws es)
 
+-- the text denotes the value, whatever its length and however deep it nests
+pub record Denotes (bytes : List ℕ) (json : Json) : Type 0 where
+  pub way : Written
+  pub is_written : IsWrittenAs bytes way
+  pub is_flawless : flaws_of way ≡ flawless
+  pub value : json ≡ tree_of way
+
 -- a line that none of the first three faults has
 pub record IsShortText (line : List ℕ) : Type 0 where
   pub short : length line ≤ max_line

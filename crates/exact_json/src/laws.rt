@@ -1,12 +1,13 @@
 //! The laws of lines and documents: a line has one value or one first fault, and never both, the
-//! canonical text of a document is a line of it and of nothing else, and an input has one list of
-//! documents and one ending. Each law is a contract of an empty function.
+//! canonical text of a value denotes it and nothing else, that of a document is a line of it, and an input
+//! has one list of documents and one ending. Each law is a contract of an empty function.
 
 ghost use Rattle.std.specs.Prelude.{◌≡◌, ◌⊎◌, List, ℕ};
 ghost use Rattle.json_tree.specs.Json.{Json};
 ghost use Rattle.json_tree.specs.Text.{text_of};
+ghost use Rattle.json_tree.specs.Valid.{IsValid};
 ghost use Rattle.exact_json.specs.Document.{IsLineValue, IsDocument};
-ghost use Rattle.exact_json.specs.Meaning.{Spells, IsFirstFault};
+ghost use Rattle.exact_json.specs.Meaning.{Denotes, Spells, IsFirstFault};
 ghost use Rattle.exact_json.specs.Documents.{Ending, HasDocuments};
 ghost use Rattle.exact_json.specs.declared.fault.DocFault.{DocFault};
 
@@ -28,6 +29,21 @@ pub fn value_is_one()
 /// A line has one first fault at most.
 pub fn fault_is_one()
     ensures { (line : List ℕ) (a b : DocFault) → IsFirstFault line a → IsFirstFault line b → a ≡ b }
+{}
+
+/// The canonical text of a valid value denotes it, whatever its length and however deep it nests.
+pub fn canonical_text_denotes()
+    ensures { (json : Json) → IsValid json → Denotes (text_of json) json }
+{}
+
+/// The canonical text of a valid value denotes no other value.
+pub fn canonical_text_denotes_one()
+    ensures { (json other : Json) → IsValid json → Denotes (text_of json) other → other ≡ json }
+{}
+
+/// Only valid values are denoted.
+pub fn denoted_is_valid()
+    ensures { (text : List ℕ) (json : Json) → Denotes text json → IsValid json }
 {}
 
 /// The canonical text of a document spells it.

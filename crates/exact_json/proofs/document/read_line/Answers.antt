@@ -3,7 +3,8 @@ use Rattle.json_tree.specs.Json.{Json}
 use Rattle.json_tree.specs.View.{view}
 use Rattle.exact_json.specs.Judging.{Gives}
 use Rattle.exact_json.specs.declared.fault.DocFault.{DocFault}
-use Rattle.exact_json.proofs.Judged.{answers, answers_ordered, judged_text_is}
+use Rattle.exact_json.proofs.Judged.{answers, judged_text_is}
+use Rattle.exact_json.proofs.LineValues.{answers_ordered}
 use Rattle.exact_json.proofs.document.read_line.Goals as goal
 
 pub returns-in-Ok-clause-exact : goal.returns-in-Ok-clause-exact
