@@ -13,3 +13,5 @@ pub mod TextMeaning
 pub mod TextUtf8
 pub mod TextDocuments
 pub mod LineValues
+pub mod NumberSizes
+pub mod TextSizes

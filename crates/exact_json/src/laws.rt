@@ -2,7 +2,7 @@
 //! canonical text of a value denotes it and nothing else, that of a document is a line of it, and an input
 //! has one list of documents and one ending. Each law is a contract of an empty function.
 
-ghost use Rattle.std.specs.Prelude.{◌≡◌, ◌⊎◌, List, ℕ};
+ghost use Rattle.std.specs.Prelude.{◌≡◌, ◌⊎◌, ◌*◌, ◌≤◌, List, ℕ, length};
 ghost use Rattle.json_tree.specs.Json.{Json};
 ghost use Rattle.json_tree.specs.Text.{text_of};
 ghost use Rattle.json_tree.specs.Valid.{IsValid};
@@ -44,6 +44,11 @@ pub fn canonical_text_denotes_one()
 /// Only valid values are denoted.
 pub fn denoted_is_valid()
     ensures { (text : List ℕ) (json : Json) → Denotes text json → IsValid json }
+{}
+
+/// The canonical text of what a line spells is at most ten times as long as the line.
+pub fn canonical_text_is_short()
+    ensures { (line : List ℕ) (json : Json) → Spells line json → length (text_of json) ≤ 10 * length line }
 {}
 
 /// The canonical text of a document spells it.
