@@ -5,6 +5,7 @@ ghost use Rattle.json_grammar.specs.Reading.{is_space, past, past_word, past_gap
 ghost use Rattle.exact_json.specs.Parsing.{Finds};
 
 /// The bytes behind the white space in front (RFC 8259, section 2).
+#[inline(always)]
 pub fn past_gap(text: &[u8]) -> &[u8]
     ensures { result.now ≡ past_gap text.now }
 {

@@ -31,7 +31,6 @@ const INNER_ROOM: usize = 2;
 /// Reads a value from the front of `text`, and gives the bytes behind it. At most `depth` arrays and
 /// objects may be open at once. The value's flaws are noted, and null stands in for what has no value.
 #[cycle(parser)]
-#[inline(always)]
 pub(crate) fn read_value<'a>(
     alloc: Global,
     text: &'a [u8],

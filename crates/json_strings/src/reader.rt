@@ -88,6 +88,7 @@ fn read_escaped<'a>(alloc: Global, run: &[u8], text: &'a [u8]) -> Result<Quoted<
 }
 
 // A string of ASCII bytes that stand for themselves, behind which `rest` stands.
+#[inline(always)]
 fn read_ascii<'a>(alloc: Global, run: &[u8], rest: &'a [u8]) -> Result<Quoted<'a>, QuotedFault>
     requires { IsUtf8 run.now }
     ensures { Reads quote result (Some (run.now, false, rest.now)) }
