@@ -4,7 +4,6 @@ pub mod Turns
 pub mod Objects
 pub mod Depths
 pub mod Judged
-pub mod Walks
 pub mod TextAscii
 pub mod TextNumbers
 pub mod TextMembers

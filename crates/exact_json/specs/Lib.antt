@@ -1,7 +1,6 @@
 pub mod Brackets
 pub mod Counting
 pub mod Document
-pub mod Documents
 pub mod Faults
 pub mod Judging
 pub mod Meaning

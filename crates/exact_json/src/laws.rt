@@ -1,6 +1,6 @@
 //! The laws of lines and documents: a line has one value or one first fault, and never both, the
-//! canonical text of a value denotes it and nothing else, that of a document is a line of it, and an input
-//! has one list of documents and one ending. Each law is a contract of an empty function.
+//! canonical text of a value denotes it and nothing else, and that of a document is a line of it. Each
+//! law is a contract of an empty function.
 
 ghost use Rattle.std.specs.Prelude.{◌≡◌, ◌⊎◌, ◌*◌, ◌≤◌, List, ℕ, length};
 ghost use Rattle.json_tree.specs.Json.{Json};
@@ -8,7 +8,6 @@ ghost use Rattle.json_tree.specs.Text.{text_of};
 ghost use Rattle.json_tree.specs.Valid.{IsValid};
 ghost use Rattle.exact_json.specs.Document.{IsLineValue, IsDocument};
 ghost use Rattle.exact_json.specs.Meaning.{Denotes, Spells, IsFirstFault};
-ghost use Rattle.exact_json.specs.Documents.{Ending, HasDocuments};
 ghost use Rattle.exact_json.specs.declared.fault.DocFault.{DocFault};
 
 /// Each line spells a value or has a first fault.
@@ -70,14 +69,4 @@ pub fn read_back_is_document()
 /// shorter, as `1e37` is.
 pub fn value_is_line_value()
     ensures { (line : List ℕ) (json : Json) → Spells line json → IsLineValue json }
-{}
-
-/// Each input has documents and an ending.
-pub fn documents_are_there()
-    ensures { (input : List ℕ) → (documents : List Json) × (ending : Ending) × HasDocuments input documents ending }
-{}
-
-/// An input has one list of documents at most, and one ending.
-pub fn documents_are_one()
-    ensures { (input : List ℕ) (ds es : List Json) (a b : Ending) → HasDocuments input ds a → HasDocuments input es b → (ds ≡ es) × (a ≡ b) }
 {}

@@ -14,7 +14,7 @@
 //! | `strings` | strings |
 //! | `seen` | the flaws that were noted |
 //! | `scan` | white space, single bytes, words |
-//! | `laws` | what a line is, once and always; canonical texts; the documents of an input |
+//! | `laws` | what a line is, once and always; canonical texts |
 //!
 //! The lines of an input come from `json_lines`, whose names are passed on.
 #![tactic(auto)]

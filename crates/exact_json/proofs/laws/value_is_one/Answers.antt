@@ -1,4 +1,4 @@
-use Rattle.exact_json.proofs.Walks.{one_value}
+use Rattle.exact_json.proofs.Judged.{one_value}
 use Rattle.exact_json.proofs.laws.value_is_one.Goals as goal
 
 pub returns : goal.returns
