@@ -1,5 +1,5 @@
 -- When two trees have the same value.
-use Rattle.std.proofs.Common.{◌≡◌, ◌∙◌, ◌↔◌, ℕ, zero, suc, ◌<◌, Bool, IsTrue, List, [], ◌∷◌, length, get_or, map, refl, sym, ap, arith, rules}
+use Rattle.std.proofs.Common.{◌≡◌, ◌∙◌, ◌↔◌, ℕ, zero, suc, ◌<◌, Bool, IsTrue, List, [], ◌∷◌, length, get_or, map, refl, sym, ap, arith}
 use Rattle.json_tree.specs.Json.{Json, array, object, Parts, Fields, parts_of, fields_of}
 use Rattle.json_tree.specs.View.{view, seen}
 use Rattle.json_tree.specs.declared.types.Tree.{Tree}

@@ -11,7 +11,7 @@ use Rattle.std.proofs.lemmas.Cmp.{nat_list_cmp_total}
 use Rattle.std.proofs.lemmas.List.{length-map}
 use Rattle.std.proofs.lemmas.List.Sorted.{searchable_from_sorted}
 use Rattle.std.proofs.lemmas.Map.Keys.{sorted_tail, Less-from_sorted}
-use Rattle.json_tree.specs.Json.{fields_of, names_of}
+use Rattle.json_tree.specs.Json.{fields_of}
 use Rattle.json_tree.specs.Order.{member_of, NamesRise}
 use Rattle.json_tree.specs.View.{view, seen}
 use Rattle.json_tree.specs.declared.types.Tree.{Tree}

@@ -1,4 +1,5 @@
-//! JSON values (RFC 8259) as trees, and their canonical text.
+//! JSON values (RFC 8259) as trees, and their canonical text. Quoted strings are read by `read_string` of
+//! `json_strings`, which is named here again.
 //!
 //! | Module | What it holds |
 //! |---|---|
@@ -26,6 +27,7 @@ mod validity;
 pub use copies::copy;
 pub use depths::depth;
 pub use exact_num::Number;
+pub use json_strings::{StringFault, read_string};
 pub use laws::{array_is_valid, object_is_valid, printed_texts_are_strings, valid_is_ordered};
 pub use lengths::text_len;
 pub use printing::{print, print_quoted, print_text};

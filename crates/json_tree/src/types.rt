@@ -1,6 +1,6 @@
 //! The tree of a JSON value (RFC 8259, section 3).
 
-ghost use Rattle.std.specs.Prelude.{◌≡◌, ◌<◌, ◌++◌, ◌∷◌, [], ◌↔◌, map, length, IfOk, OnOk, OnErr, IsErrOf, IsTrue, slice_get, Some};
+ghost use Rattle.std.specs.Prelude.{◌≡◌, ◌==◌, ◌<◌, ◌++◌, ◌∷◌, [], ◌↔◌, map, length, IfOk, OnOk, OnErr, IsErrOf, IsTrue, slice_get, Some};
 ghost use Rattle.std.specs.Option.{option_map};
 ghost use Rattle.vs_bytes.specs.Names.{repeats};
 ghost use Rattle.json_tree.specs.Json.{array, object, no_parts, parts_of, fields_of, items_of, names_of, values_of};
@@ -130,6 +130,13 @@ impl Items {
         self.as_slice().len()
     }
 
+    /// Whether there are none.
+    pub fn is_empty(&self) -> bool
+        ensures { result ≡ (length (items_of self.now) == 0) }
+    {
+        self.len() == 0
+    }
+
     /// The item at `i`, counted from 0.
     pub fn at(&self, i: usize) -> &Tree
         requires { i < length (items_of self.now) }
@@ -177,6 +184,13 @@ impl Members {
         ensures { result ≡ length (names_of self.now) }
     {
         self.as_slice().len()
+    }
+
+    /// Whether there are none.
+    pub fn is_empty(&self) -> bool
+        ensures { result ≡ (length (names_of self.now) == 0) }
+    {
+        self.len() == 0
     }
 
     /// The name of the member at `i`, counted from 0 in the order of the names.

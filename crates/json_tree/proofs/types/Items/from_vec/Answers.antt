@@ -1,4 +1,4 @@
-use Rattle.std.proofs.Common.{sym, subst, map, List, refl}
+use Rattle.std.proofs.Common.{subst, map, List, refl}
 use Rattle.json_tree.specs.Json.{parts_of}
 use Rattle.json_tree.specs.Valid.{AreValid}
 use Rattle.json_tree.specs.View.{view}

@@ -1,4 +1,4 @@
-use Rattle.std.proofs.Common.{refl, subst, map, List, ℕ, true}
+use Rattle.std.proofs.Common.{refl, subst, map, List, ℕ}
 use Rattle.json_tree.specs.Json.{fields_of}
 use Rattle.json_tree.specs.Valid.{HoldValid}
 use Rattle.json_tree.specs.View.{seen}
