@@ -1,5 +1,5 @@
 -- How long the canonical text of a number is, beside a text that was read as it.
-use Rattle.std.proofs.Common.{◌≡◌, ◌∙◌, refl, sym, ap, subst, inl, inr, ⊎_elim, ◌⊎◌, ℕ, zero, suc, ◌+◌, ◌-◌, ◌*◌, ◌/◌, ◌^◌, ◌<◌, ◌≤◌, ◌==◌, nat_lt, nat_le, ◌&&◌, List, [], ◌∷◌, ◌++◌, Bool, true, false, cond, Option, Some, None, ok_or, length, length-append, arith, pos, int_lt, unsigned_abs, mul_right_comm, mul-lt-mul_of_pos_right}
+use Rattle.std.proofs.Common.{◌≡◌, ◌∙◌, refl, sym, ap, subst, inl, inr, ⊎_elim, ◌⊎◌, ℕ, suc, ◌+◌, ◌-◌, ◌*◌, ◌/◌, ◌^◌, ◌<◌, ◌≤◌, ◌==◌, nat_lt, nat_le, ◌&&◌, List, [], ◌∷◌, ◌++◌, Bool, true, false, cond, Option, Some, None, ok_or, length, length-append, arith, pos, int_lt, unsigned_abs, mul_right_comm, mul-lt-mul_of_pos_right}
 use Rattle.std.specs.Prelude.{decimal}
 use Rattle.std.specs.List.{AllByRecursion}
 use Rattle.std.specs.Result.{result_ok}
@@ -9,7 +9,6 @@ use Rattle.std.proofs.lemmas.Bool.Decides.{nat_tests}
 use Rattle.std.proofs.lemmas.Fmt.{length-decimal-le_wide}
 use Rattle.std.proofs.lemmas.Nat.{pow-add}
 use Rattle.exact_num.specs.Decimal.{Decimal, signed, shortened, least, numbered}
-use Rattle.exact_num.specs.Parsing.{parsed}
 use Rattle.exact_num.specs.Reading as numbers
 use Rattle.exact_num.specs.Reading.{read_from, read_of}
 use Rattle.exact_num.specs.Spelling as parts

@@ -1,5 +1,5 @@
 -- The members of an object as its tree shows them.
-use Rattle.std.proofs.Common.{◌≡◌, ◌↔◌, refl, ap, List, ℕ, [], ◌∷◌, map, Bool, true, false, Ok, Err, Result, IsTrue, rules}
+use Rattle.std.proofs.Common.{◌≡◌, ◌↔◌, refl, ap, List, ℕ, [], ◌∷◌, map, Bool, true, false, Ok, Err, Result, IsTrue}
 use Rattle.json_tree.specs.Json.{Fields}
 use Rattle.json_tree.specs.View.{seen}
 use Rattle.json_tree.specs.declared.types.Tree.{Tree}
