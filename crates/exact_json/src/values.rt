@@ -77,7 +77,6 @@ fn read_text<'a>(
 }
 
 #[cycle(parser)]
-#[inline(never)]
 #[tactic(auto, unfolding(json_grammar::specs::Reading::nested))]
 fn read_array<'a>(
     alloc: Global,
@@ -132,7 +131,6 @@ fn read_elements<'a>(
 }
 
 #[cycle(parser)]
-#[inline(never)]
 #[tactic(auto, unfolding(json_grammar::specs::Reading::nested))]
 fn read_object<'a>(
     alloc: Global,

@@ -54,6 +54,7 @@ impl Text {
     }
 
     /// A copy of bytes that are UTF-8.
+    #[inline(always)]
     pub fn from_utf8_slice(alloc: Global, bytes: &[u8]) -> Result<Text, NoMemory>
         requires { IsUtf8 bytes.now }
         ensures { IfOk result (λ t. t ≡ bytes.now) }
