@@ -16,10 +16,17 @@ IsSame a b = a.unscaled *ℤ pos (10 ^ b.scale) ≡ b.unscaled *ℤ pos (10 ^ a.
 abbrev pub order : Decimal → Decimal → Ordering
 order a b = int_cmp (a.unscaled *ℤ pos (10 ^ b.scale)) (b.unscaled *ℤ pos (10 ^ a.scale))
 
--- what a Number is: 38 digits at most, and no zero at the end behind the point
+-- a Number has so many digits at most, and so many of them behind the point
+abbrev pub max_digits : ℕ
+max_digits = 38
+
+abbrev pub max_places : ℕ
+max_places = 38
+
+-- what a Number is, which has no zero at the end behind the point
 pub record IsNumber (d : Decimal) : Type 0 where
-  pub size : unsigned_abs d.unscaled < 10 ^ 38
-  pub places : d.scale ≤ 38
+  pub size : unsigned_abs d.unscaled < 10 ^ max_digits
+  pub places : d.scale ≤ max_places
   pub least : unsigned_abs d.unscaled % 10 ≡ 0 → d.scale ≡ 0
 
 -- some Number has the decimal's value
@@ -42,10 +49,10 @@ shortened n (suc places) = cond (n % 10 == 0) (shortened (n / 10) places) (n, su
 abbrev pub least : Bool → ℕ → ℕ → Decimal
 least minus n places = record { unscaled = signed minus (shortened n places).0; scale = (shortened n places).1 }
 
--- the decimal, if 38 digits and 38 places are enough for it
+-- the decimal, if so many digits and places are enough for it
 abbrev pub admitted : Bool → ℕ → ℕ → Option Decimal
 admitted minus n places =
-    cond (nat_lt n (10 ^ 38) && nat_le places 38) (Some (record { unscaled = signed minus n; scale = places })) None
+    cond (nat_lt n (10 ^ max_digits) && nat_le places max_places) (Some (record { unscaled = signed minus n; scale = places })) None
 
 -- the Number of the value n / 10 ^ places, or its negative
 abbrev pub numbered : Bool → ℕ → ℕ → Option Decimal

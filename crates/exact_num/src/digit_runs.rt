@@ -3,6 +3,7 @@
 ghost use Rattle.std.specs.Prelude.{◌≡◌, ◌+◌, ◌*◌, ◌^◌, ◌<◌, ◌++◌, All, IfSome, option_map};
 ghost use Rattle.exact_num.specs.Parsing.{front, back, past, is_whole};
 ghost use Rattle.exact_num.specs.Spelling.{IsDigit, digits_value};
+ghost use Rattle.exact_num.specs.Decimal.{max_digits};
 
 /// What is behind the byte, if the text begins with it.
 pub(crate) fn after_byte(text: &[u8], byte: u8) -> Option<&[u8]>
@@ -54,9 +55,9 @@ pub(crate) fn small_value(before: u64, digits: &[u8]) -> Option<u64>
 /// The integer of the digits, behind the digits of `before`, if it is below 10 ^ 38.
 pub(crate) fn wide_value(before: u128, digits: &[u8]) -> Option<u128>
     requires all { All IsDigit digits.now }
-    requires before { before < 10 ^ 38 }
+    requires before { before < 10 ^ max_digits }
     ensures value { IfSome result (λ n. n ≡ digits_value before digits.now) }
-    ensures size { IfSome result (λ n. n < 10 ^ 38) }
+    ensures size { IfSome result (λ n. n < 10 ^ max_digits) }
 {
     let mut value = before;
     for byte in digits {

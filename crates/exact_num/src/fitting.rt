@@ -1,7 +1,7 @@
 //! Numbers as integers.
 
 ghost use Rattle.std.specs.Prelude.{◌≡◌, ◌≤◌, ℤ, MatchOption, FitsSigned};
-ghost use Rattle.exact_num.specs.Decimal.{IsSame};
+ghost use Rattle.exact_num.specs.Decimal.{max_digits, IsSame};
 ghost use Rattle.exact_num.specs.Fitting.{IsOver};
 ghost use Rattle.exact_num.specs.NumberOf.{decimal_of};
 ghost use mir.Syntax.{w64};
@@ -13,7 +13,7 @@ use crate::power::{power, shifted};
 /// Nothing is rounded.
 pub fn fits(number: Number, precision: u8, scale: u8) -> Option<i128>
     requires some { 1 ≤ precision }
-    requires precision { precision ≤ 38 }
+    requires precision { precision ≤ max_digits }
     requires scale { scale ≤ precision }
     ensures { MatchOption result ((u : ℤ) → IsOver precision scale (decimal_of number) u → ⊥) (IsOver precision scale (decimal_of number)) }
 {

@@ -1,7 +1,7 @@
 //! The number type.
 
 ghost use Rattle.std.specs.Prelude.{◌≡◌, ℕ, ◌*◌, ◌%◌, ◌^◌, ◌<◌, ◌≤◌, pos, int_lt, unsigned_abs};
-ghost use Rattle.exact_num.specs.Decimal.{IsSame, least, shortened, signed};
+ghost use Rattle.exact_num.specs.Decimal.{max_digits, max_places, IsSame, least, shortened, signed};
 
 /// An exact decimal: `unscaled / 10 ^ scale`, of 38 digits and 38 places at most, in least scale: behind
 /// the point there is no zero at the end. So each value has one `Number`; there is no negative 0.
@@ -10,8 +10,8 @@ pub struct Number {
     unscaled: i128,
     // A whole word: a byte with its padding is slow to copy.
     scale: u64,
-    ghost size: { unsigned_abs unscaled < 10 ^ 38 },
-    ghost places: { scale ≤ 38 },
+    ghost size: { unsigned_abs unscaled < 10 ^ max_digits },
+    ghost places: { scale ≤ max_places },
     ghost least: { unsigned_abs unscaled % 10 ≡ 0 → scale ≡ 0 },
 }
 
@@ -26,8 +26,8 @@ impl Number {
 
     /// The number `unscaled / 10 ^ scale`.
     pub fn of(unscaled: i128, scale: u8) -> Number
-        requires size { unsigned_abs unscaled < 10 ^ 38 }
-        requires places { scale ≤ 38 }
+        requires size { unsigned_abs unscaled < 10 ^ max_digits }
+        requires places { scale ≤ max_places }
         ensures exact { decimal_of result ≡ least (int_lt unscaled (pos 0)) (unsigned_abs unscaled) scale }
         ensures same { IsSame (decimal_of result) (record { unscaled = unscaled; scale = scale }) }
     {
@@ -36,8 +36,8 @@ impl Number {
 
     /// The number `size / 10 ^ places`, or its negative.
     pub(crate) fn of_size(minus: bool, size: u128, places: u8) -> Number
-        requires size { size < 10 ^ 38 }
-        requires places { places ≤ 38 }
+        requires size { size < 10 ^ max_digits }
+        requires places { places ≤ max_places }
         ensures { decimal_of result ≡ least minus size places }
     {
         let (size, scale) = trimmed(size, places);
@@ -57,7 +57,7 @@ impl Number {
     /// The integer without its sign.
     pub(crate) fn size(self) -> u128
         ensures value { result ≡ unsigned_abs (decimal_of self).unscaled }
-        ensures small { result < 10 ^ 38 }
+        ensures small { result < 10 ^ max_digits }
     {
         self.unscaled.unsigned_abs()
     }
@@ -72,7 +72,7 @@ impl Number {
     /// How many digits it has behind the point.
     pub fn scale(self) -> u8
         ensures value { result ≡ (decimal_of self).scale }
-        ensures small { result ≤ 38 }
+        ensures small { result ≤ max_places }
     {
         self.scale as u8
     }
@@ -120,7 +120,7 @@ fn trimmed_wide(size: u128, places: u8) -> (u128, u8)
 /// The integer of a sign and a size.
 #[tactic(auto, using(crate::proofs::Signs::signed_abs))]
 pub(crate) fn with_sign(minus: bool, size: u128) -> i128
-    requires { size < 10 ^ 38 }
+    requires { size < 10 ^ max_digits }
     ensures value { result ≡ signed minus size }
     ensures size { unsigned_abs result ≡ size }
 {

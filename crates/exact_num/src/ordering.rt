@@ -2,7 +2,7 @@
 
 ghost use Rattle.std.specs.Prelude.{◌≡◌, ◌*◌, ◌^◌, ◌<◌, ◌≤◌};
 ghost use Rattle.std.specs.Ordering.{nat_cmp};
-ghost use Rattle.exact_num.specs.Decimal.{order};
+ghost use Rattle.exact_num.specs.Decimal.{max_places, order};
 ghost use Rattle.exact_num.specs.NumberOf.{decimal_of};
 
 use crate::number::Number;
@@ -27,8 +27,8 @@ pub fn cmp(a: Number, b: Number) -> Ordering
 // The order of a / 10 ^ s and b / 10 ^ t: by the whole parts, and then by what is behind the point.
 #[tactic(auto, using(crate::proofs::Orders::wholes_below, crate::proofs::Orders::wholes_above, crate::proofs::Orders::wholes_same))]
 fn cmp_sizes(a: u128, s: u8, b: u128, t: u8) -> Ordering
-    requires s { s ≤ 38 }
-    requires t { t ≤ 38 }
+    requires s { s ≤ max_places }
+    requires t { t ≤ max_places }
     ensures { result ≡ nat_cmp (a * 10 ^ t) (b * 10 ^ s) }
 {
     let (whole_a, rest_a) = parts(a, power(s));
@@ -44,8 +44,8 @@ fn cmp_sizes(a: u128, s: u8, b: u128, t: u8) -> Ordering
 
 #[tactic(auto, using(crate::proofs::Orders::rests_up, crate::proofs::Orders::rests_down))]
 fn cmp_rests(a: u128, s: u8, b: u128, t: u8) -> Ordering
-    requires s { s ≤ 38 }
-    requires t { t ≤ 38 }
+    requires s { s ≤ max_places }
+    requires t { t ≤ max_places }
     requires a { a < 10 ^ s }
     requires b { b < 10 ^ t }
     ensures { result ≡ nat_cmp (a * 10 ^ t) (b * 10 ^ s) }

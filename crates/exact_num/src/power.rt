@@ -1,21 +1,22 @@
 //! Powers of ten, and products with them that keep to 38 digits.
 
 ghost use Rattle.std.specs.Prelude.{◌≡◌, ◌+◌, ◌*◌, ◌/◌, ◌%◌, ◌^◌, ◌<◌, ◌≤◌, MatchOption};
+ghost use Rattle.exact_num.specs.Decimal.{max_digits, max_places};
 
 /// `10 ^ places`.
 pub(crate) fn power(places: u8) -> u128
-    requires { places ≤ 38 }
+    requires { places ≤ max_places }
     ensures value { result ≡ 10 ^ places }
     ensures some { 0 < result }
-    ensures small { result ≤ 10 ^ 38 }
+    ensures small { result ≤ 10 ^ max_digits }
 {
     POWERS[usize::from(places)]
 }
 
 /// `number * 10 ^ places`, or `None` from 10 ^ 38 on.
 pub(crate) fn shifted(number: u128, places: u8) -> Option<u128>
-    requires { places ≤ 38 }
-    ensures { MatchOption result (10 ^ 38 ≤ number * 10 ^ places) (λ n. (n ≡ number * 10 ^ places) × (n < 10 ^ 38)) }
+    requires { places ≤ max_places }
+    ensures { MatchOption result (10 ^ max_digits ≤ number * 10 ^ places) (λ n. (n ≡ number * 10 ^ places) × (n < 10 ^ max_digits)) }
 {
     let product = number.checked_mul(power(places))?;
     if product < POWERS[38] {

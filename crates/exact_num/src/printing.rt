@@ -3,6 +3,7 @@
 ghost use Rattle.std.specs.Prelude.{◌≡◌, ◌+◌, ◌-◌, min, length, ◌^◌, ◌<◌, ◌≤◌, ◌++◌, ◌∷◌, decimal, drop, OnOk, OnErr};
 ghost use Rattle.exact_num.specs.NumberOf.{decimal_of};
 ghost use Rattle.exact_num.specs.Text.{Grows, text_of, size_text, padded};
+ghost use Rattle.exact_num.specs.Decimal.{max_places};
 
 use crate::number::Number;
 use crate::power::{parts, power};
@@ -35,7 +36,7 @@ fn put(into: &mut Vec<u8>, number: Number) -> Result<(), AllocError>
 
 #[tactic(auto, unfolding(crate::specs::Text::size_text))]
 fn put_size(into: &mut Vec<u8>, size: u128, scale: u8) -> Result<(), AllocError>
-    requires { scale ≤ 38 }
+    requires { scale ≤ max_places }
     ensures ok { OnOk result (into.new.items ≡ into.old.items ++ size_text size scale) }
     ensures grows { Grows into.old.items into.new.items }
 {
@@ -63,7 +64,7 @@ fn put_whole(into: &mut Vec<u8>, size: u128) -> Result<(), AllocError>
 // The digits behind a 1 in front, which keeps the zeros at their beginning.
 #[tactic(auto, using(crate::proofs::Printed::marked_text))]
 fn put_places(into: &mut Vec<u8>, rest: u128, scale: u8) -> Result<(), AllocError>
-    requires scale { scale ≤ 38 }
+    requires scale { scale ≤ max_places }
     requires rest { rest < 10 ^ scale }
     ensures ok { OnOk result (into.new.items ≡ into.old.items ++ padded scale rest) }
     ensures grows { Grows into.old.items into.new.items }
@@ -94,7 +95,7 @@ pub fn text_len(number: Number) -> u64
 }
 
 fn size_len(size: u128, scale: u8) -> u64
-    requires { scale ≤ 38 }
+    requires { scale ≤ max_places }
     ensures { result ≡ min (length (size_text size scale)) (2 ^ 64 - 1) }
 {
     let (whole, _) = parts(size, power(scale));

@@ -1,7 +1,7 @@
 //! Reading JSON numbers (RFC 8259, section 6).
 
 ghost use Rattle.std.specs.Prelude.{◌≡◌, ℕ, ◌*◌, ◌^◌, ◌<◌, ◌++◌, MatchOption, length, All, Some, IfOk, IfErr, IfSome, option_map};
-ghost use Rattle.exact_num.specs.Decimal.{numbered, signed};
+ghost use Rattle.exact_num.specs.Decimal.{max_digits, numbered, signed};
 ghost use Rattle.exact_num.specs.NumberOf.{decimal_of};
 ghost use Rattle.exact_num.specs.Parsing.{parsed, unsigned, pointed, ended};
 ghost use Rattle.exact_num.specs.Reading.{Gives, IsRead, IsFault, number_of, read_from, read_of};
@@ -107,7 +107,7 @@ fn plain_size(whole: &[u8], fraction: &[u8]) -> Option<u128>
     requires whole { All IsDigit whole.now }
     requires fraction { All IsDigit fraction.now }
     ensures value { IfSome result (λ n. n ≡ digits_value 0 (whole.now ++ fraction.now)) }
-    ensures size { IfSome result (λ n. n < 10 ^ 38) }
+    ensures size { IfSome result (λ n. n < 10 ^ max_digits) }
 {
     match small_value(0, whole) {
         Some(front) => match small_value(front, fraction) {

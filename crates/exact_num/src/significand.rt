@@ -1,6 +1,7 @@
 //! Digits without the zeros at their end.
 
 ghost use Rattle.std.specs.Prelude.{◌≡◌, ◌+◌, ◌*◌, ◌%◌, ◌^◌, ◌<◌, ◌≤◌, length, All, IfSome, MatchOption};
+ghost use Rattle.exact_num.specs.Decimal.{max_digits};
 
 use crate::power::shifted;
 
@@ -9,7 +10,7 @@ use crate::power::shifted;
 pub(crate) struct Significand {
     pub(crate) digits: u128,
     pub(crate) zeros: u128,
-    ghost size: { digits < 10 ^ 38 },
+    ghost size: { digits < 10 ^ max_digits },
     ghost lean: { digits % 10 ≡ 0 → digits ≡ 0 },
 }
 
@@ -58,7 +59,7 @@ impl Significand {
         requires digit { (0 < digit) × (digit < 10) }
         requires zeros { self.zeros < 2 ^ 66 }
         ensures value { MatchOption result (IsWide (self.digits * 10 ^ self.zeros * 10 + digit)) (λ n. n ≡ self.digits * 10 ^ self.zeros * 10 + digit) }
-        ensures size { IfSome result (λ n. n < 10 ^ 38) }
+        ensures size { IfSome result (λ n. n < 10 ^ max_digits) }
         ensures lean { IfSome result (λ n. 0 < n % 10) }
     {
         if self.digits == 0 {
