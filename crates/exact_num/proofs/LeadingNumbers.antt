@@ -1,6 +1,6 @@
 -- Numbers at the front: digits, and maybe a point and digits.
-use Rattle.std.proofs.Common.{◌≡◌, ◌∙◌, refl, sym, ap, ap₂, ℕ, ◌+◌, ◌*◌, ◌^◌, ◌<◌, ◌≤◌, List, [], ◌∷◌, ◌++◌, length, Bool, true, false, not, cond, Some, Ok, Option, ok_or, append-nil, append_assoc, arith}
-use Rattle.std.specs.List.{AllByRecursion, list_all}
+use Rattle.std.proofs.Common.{◌≡◌, ◌∙◌, refl, sym, ap, ap₂, ℕ, ◌^◌, ◌<◌, ◌≤◌, List, [], ◌∷◌, ◌++◌, length, Bool, true, false, not, cond, Some, Ok, Option, ok_or, append-nil, append_assoc, arith}
+use Rattle.std.specs.List.{list_all}
 use Rattle.exact_num.specs.Decimal.{Decimal, numbered, least}
 use Rattle.exact_num.specs.Leading.{IsLeading, number_run, after_number, is_ended}
 use Rattle.exact_num.specs.Parsing.{is_digit, is_numeric, is_whole, parsed}

@@ -1,11 +1,10 @@
 -- Lanes of bytes, and the runs of bytes that they show.
-use Rattle.std.proofs.Common.{◌≡◌, ◌∙◌, refl, sym, ap, ap₂, ⊎_elim, subst, ℕ, ◌+◌, ◌-◌, ◌%◌, ◌^◌, ◌<◌, ◌≤◌, ◌==◌, Bool, true, false, ◌||◌, cond, List, [], ◌∷◌, Some, map, length, take, drop, get_or, get_or-take, arith, w8}
-use Rattle.std.specs.Prelude.{nat_lt}
+use Rattle.std.proofs.Common.{◌≡◌, ◌∙◌, refl, sym, ap, ap₂, ⊎_elim, subst, ℕ, ◌+◌, ◌%◌, ◌^◌, ◌<◌, ◌≤◌, Bool, true, false, ◌||◌, cond, List, [], ◌∷◌, Some, map, length, take, drop, get_or, get_or-take, arith}
 use Rattle.std.specs.Str.{IsAscii}
 use Rattle.std.proofs.lemmas.Bool.{cases_lt}
 use Rattle.std.proofs.lemmas.Bool.Decides.{nat_tests}
 use Rattle.std.proofs.lemmas.List.{length-map, length-take, get_or_past}
-use Rattle.std.proofs.lemmas.Simd.{zip2_of_maps, mask_l-mod, trailing_mask_l, leading_from_mask_l, length-chunk, run_in_chunk_le, run_in_chunk_fails, none_from_empty_mask}
+use Rattle.std.proofs.lemmas.Simd.{zip2_of_maps, mask_l-mod, trailing_mask_l, length-chunk, run_in_chunk_le, run_in_chunk_fails, none_from_empty_mask}
 use Rattle.std.proofs.lemmas.Str.{IsUtf8-from_ascii}
 use lib.Bits.{bit_or}
 use lib.Count.{count_trailing_zeros}

@@ -1,5 +1,4 @@
-use Rattle.std.proofs.Common.{◌≡◌, ◌∙◌, sym, ap, ℕ, ◌<◌, ◌≤◌, ◌+◌, ◌^◌, length, true, arith, rules}
-use Rattle.std.proofs.lemmas.Bool.Decides.{nat_tests}
+use Rattle.std.proofs.Common.{◌≡◌, ◌∙◌, ap, ℕ, ◌<◌, length, true, arith, rules}
 use Rattle.exact_num.specs.Leading.{is_ended}
 use Rattle.exact_num.specs.Spelling.{digits_value}
 use Rattle.exact_num.proofs.LeadingNumbers.{decimal_leads}

@@ -1,5 +1,4 @@
-use Rattle.std.proofs.Common.{◌≡◌, ◌∙◌, ◌<◌, sym, ap₂, ◌+◌, ◌*◌, ℕ, length, arith}
-use Rattle.exact_num.specs.Spelling.{digits_value}
+use Rattle.std.proofs.Common.{◌∙◌, ◌<◌, sym, ap₂, ◌+◌, ◌*◌, ℕ, length, arith}
 use Rattle.exact_num.proofs.ShortDigits.{size_ten, size_more, all_more, value_more}
 use Rattle.exact_num.proofs.leading_reading.short_digits.Goals as goal
 

@@ -1,4 +1,4 @@
-use Rattle.std.proofs.Common.{◌≡◌, ◌∙◌, sym, ℕ, true, arith, rules}
+use Rattle.std.proofs.Common.{◌≡◌, ◌∙◌, true, arith, rules}
 use Rattle.exact_num.specs.Leading.{is_ended}
 use Rattle.exact_num.specs.Parsing.{is_whole}
 use Rattle.exact_num.proofs.LeadingNumbers.{whole_leads}

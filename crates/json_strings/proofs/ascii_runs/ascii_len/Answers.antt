@@ -1,4 +1,4 @@
-use Rattle.std.proofs.Common.{◌≡◌, ap, ℕ, ◌+◌, ◌<◌, ◌≤◌, map, length, arith}
+use Rattle.std.proofs.Common.{◌≡◌, ap, ◌<◌, map, arith}
 use lib.Count.{count_trailing_zeros}
 use lib.Lanes.{chunk, mask_l}
 use Rattle.json_strings.specs.AsciiRuns.{is_special}
