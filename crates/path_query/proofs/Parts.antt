@@ -4,9 +4,9 @@ use Rattle.std.specs.Prelude.{slice_get}
 use Rattle.std.specs.Str.{bytes_eq}
 use Rattle.json_tree.specs.Json.{Json, null, boolean, number, text, array, object, Parts, no_parts, part, parts_of, items_of, Fields, no_fields, field}
 use Rattle.json_tree.specs.Order.{IsOrdered, AreOrdered, HoldOrdered, member_of}
-use Rattle.json_tree.specs.View.{view, items_view}
-use Rattle.json_tree.specs.declared.types.Tree.{Tree, Array, the_lemmas}
-use Rattle.json_tree.specs.declared.types.Items.{Items}
+use Rattle.json_tree.specs.View.{view}
+use Rattle.json_tree.specs.declared.types.Tree.{Tree}
+use Rattle.json_tree.specs.declared.types.Tree.TheVariants.{Array}
 use Rattle.query_tree.specs.declared.step.Step.{Step}
 use Rattle.query_tree.specs.declared.step.Step.TheVariants.{Field, Index, Star}
 use Rattle.path_query.specs.Matches.{all_of, list_of, parts_at}
@@ -15,11 +15,8 @@ items_listed : (js : List Json) → items_of (parts_of js) ≡ js
 items_listed [] = refl
 items_listed (j ∷ js) = ap (λ rest. j ∷ rest) (items_listed js)
 
-view_array : (items : Items) → view (Array items) ≡ array (items_view items)
-view_array items = search (rules, the_lemmas)
-
-pub items_seen : (t : Tree) (items : Items) (ts : List Tree) → t ≡ Array items → items_view items ≡ parts_of (map view ts) → map view ts ≡ all_of (view t)
-items_seen t items ts e f = sym (ap all_of (ap view e ∙ view_array items ∙ ap array f) ∙ items_listed (map view ts))
+pub items_seen : (t : Tree) (items : Parts) (ts : List Tree) → t ≡ Array items → items ≡ parts_of (map view ts) → map view ts ≡ all_of (view t)
+items_seen t items ts e f = sym (ap all_of (ap view e ∙ ap array f) ∙ items_listed (map view ts))
 
 member_ordered : (name : List ℕ) (fs : Fields) → HoldOrdered fs → AreOrdered (parts_of (list_of (member_of name fs)))
 member_ordered name no_fields h = tt

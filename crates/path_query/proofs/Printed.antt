@@ -8,7 +8,8 @@ use Rattle.std.specs.Io.{StartsWith}
 use Rattle.json_tree.specs.Order.{AreOrdered}
 use Rattle.json_tree.specs.Text.{text_of, parts_text, more_parts}
 use Rattle.json_tree.specs.View.{view}
-use Rattle.json_tree.specs.declared.types.Tree.{Tree, Null}
+use Rattle.json_tree.specs.declared.types.Tree.{Tree}
+use Rattle.json_tree.specs.declared.types.Tree.TheVariants.{Null}
 use Rattle.query_tree.specs.View.{steps_of}
 use Rattle.query_tree.specs.declared.path.Path.{Path}
 use Rattle.query_tree.specs.declared.step.Step.{Step}
