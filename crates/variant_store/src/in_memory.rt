@@ -1,16 +1,19 @@
 //! The top call over objects in memory, where each byte is known.
 
 ghost use Rattle.std.specs.Prelude.{◌≡◌, ◌⊎◌, ◌+◌, ◌≤◌, length, []};
+ghost use Rattle.outside.specs.Memory.{source_device, sink_device};
 ghost use Rattle.json_documents.specs.Documents.{at_end, max_input};
 ghost use Rattle.query_tree.specs.Asked.{Asked};
 ghost use Rattle.variant_store.specs.Words.{AskScan};
+ghost use Rattle.variant_store.specs.World.{world_of};
+ghost use Rattle.variant_store.specs.Top.{IsAnswer};
 ghost use Rattle.variant_store.specs.InMemory.{Prints, StopsAtLine, StopsAtLimit};
 
 use crate::top::{Word, vstore};
 use outside::{MemSink, MemSource};
 use std::alloc::Global;
 
-/// [`vstore`] over objects in memory: what it says of known bytes, said in bytes.
+/// [`vstore`] over objects in memory: what its `answer` says of known bytes, said in bytes.
 pub fn vstore_in_memory(
     alloc: Global,
     words: &[Word],
@@ -18,7 +21,8 @@ pub fn vstore_in_memory(
     out: &mut MemSink,
     err: &mut MemSink,
 ) -> u8
-    ensures answered { (asked : Asked) → AskScan words.now asked → result ≡ 0 → Prints asked input.old at_end out.old out.new }
+    ensures answer { IsAnswer words.now (world_of (source_device input.old) (sink_device out.old)) (world_of (source_device input.new) (sink_device out.new)) (sink_device err.old) (sink_device err.new) result }
+    ensures prints { (asked : Asked) → AskScan words.now asked → result ≡ 0 → Prints asked input.old at_end out.old out.new }
     ensures read_whole { (asked : Asked) → AskScan words.now asked → result ≡ 0 → input.new.left ≡ [] }
     ensures bounded { length input.old.left ≤ max_input + 1 + length input.new.left }
     ensures refused { (asked : Asked) → AskScan words.now asked → result ≡ 3 → StopsAtLine asked input.old out.old out.new err.old err.new ⊎ StopsAtLimit asked input.old out.old out.new err.old err.new }
