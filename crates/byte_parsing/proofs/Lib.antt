@@ -2,8 +2,6 @@
 pub mod Holds
 -- items between commas: read as they are spelled, and spelled as they are read
 pub mod ListReading
--- a refusal that is handed on
-pub mod Refusals
 -- the longest front that passes a test
 pub mod Runs
 -- digits and whole numbers: the test and the relation

@@ -1,7 +1,7 @@
 //! The bytes after a byte, and after a word.
 
 ghost use Rattle.std.specs.Prelude.{◌≡◌, cond, None, Some};
-ghost use Rattle.byte_parsing.specs.Outcome.{Finds};
+ghost use Rattle.vs_bytes.specs.Outcome.{Finds};
 ghost use Rattle.byte_parsing.specs.Parse.{past, past_word};
 ghost use Rattle.byte_parsing.specs.Words.{word_end, past_whole_word};
 

@@ -1,0 +1,5 @@
+pub mod Growing
+pub mod Numbers
+pub mod Parts
+pub mod Refusals
+pub mod Utf8

@@ -1,2 +1,6 @@
 pub mod HeldText
+pub mod Hex
 pub mod Names
+pub mod Numbers
+pub mod Outcome
+pub mod RuleNames

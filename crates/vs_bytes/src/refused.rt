@@ -2,8 +2,9 @@
 
 ghost use Rattle.std.specs.Prelude.{◌≡◌};
 
+use crate::memory::NoMemory;
+use crate::rule::Rule;
 use std::alloc::{AllocError, AllocFailed};
-use vs_bytes::NoMemory;
 
 /// Nothing of the kind stands there: the one fault of a reader of a part.
 #[derive(Clone, Copy, PartialEq, Eq, Debug, Drop)]
@@ -18,8 +19,21 @@ pub enum Refused<F: Drop> {
     NoMemory,
 }
 
+/// A violation of a format, or no memory.
+pub type Refusal = Refused<Rule>;
+
+impl From<Rule> for Refused<Rule> {
+    ghost use Rattle.vs_bytes.specs.declared.refused.Refused.TheVariants as refused;
+
+    ghost from_gives = { λ rule e. e ≡ refused.Fault rule };
+
+    fn from(rule: Rule) -> Refused<Rule> {
+        Refused::Fault(rule)
+    }
+}
+
 impl<F: Drop> From<NoMemory> for Refused<F> {
-    ghost use Rattle.byte_parsing.specs.declared.refused.Refused.TheVariants as refused;
+    ghost use Rattle.vs_bytes.specs.declared.refused.Refused.TheVariants as refused;
 
     ghost from_gives = { λ _ e. e ≡ refused.NoMemory };
 
@@ -29,7 +43,7 @@ impl<F: Drop> From<NoMemory> for Refused<F> {
 }
 
 impl<F: Drop> From<AllocError> for Refused<F> {
-    ghost use Rattle.byte_parsing.specs.declared.refused.Refused.TheVariants as refused;
+    ghost use Rattle.vs_bytes.specs.declared.refused.Refused.TheVariants as refused;
 
     ghost from_gives = { λ _ e. e ≡ refused.NoMemory };
 
@@ -39,7 +53,7 @@ impl<F: Drop> From<AllocError> for Refused<F> {
 }
 
 impl<F: Drop, T: Drop> From<AllocFailed<T>> for Refused<F> {
-    ghost use Rattle.byte_parsing.specs.declared.refused.Refused.TheVariants as refused;
+    ghost use Rattle.vs_bytes.specs.declared.refused.Refused.TheVariants as refused;
 
     ghost from_gives = { λ _ e. e ≡ refused.NoMemory };
 
