@@ -7,3 +7,4 @@ pub mod Leading
 pub mod Text
 pub mod Wide
 pub mod Fitting
+pub mod Unscaled

@@ -1,0 +1,4 @@
+pub mod Dictionaries
+pub mod Metadata
+pub mod Names
+pub mod Written

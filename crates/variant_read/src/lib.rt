@@ -1,0 +1,2 @@
+//! Variant values, read in place.
+#![tactic(auto)]

@@ -1,0 +1,79 @@
+-- What the writers ask of a JSON value, a dictionary and the widths.
+use Rattle.std.specs.Prelude.{◌≡◌, ℕ, ◌≤◌, ◌<◌, true, List, [], ◌∷◌, ◌++◌, length}
+use Rattle.std.specs.Str.{is_utf8}
+use Rattle.exact_num.specs.Decimal.{IsNumber}
+use Rattle.json_tree.specs.Json.{Json, null, boolean, number, text, array, object, Parts, no_parts, part, Fields, no_fields, field}
+use Rattle.variant_meta.specs.Names.{place_of}
+use Rattle.variant_write.specs.declared.widths.Widths.{Widths}
+
+-- the longest canonical text of a value that is written
+abbrev pub max_text_len : ℕ
+max_text_len = 16777216
+
+-- the greatest width of a number
+abbrev pub max_width : ℕ
+max_width = 4
+
+pub record IsWidths (widths : Widths) : Type 0 where
+  pub offset_least : 1 ≤ widths.offset
+  pub offset_most : widths.offset ≤ max_width
+  pub id_least : 1 ≤ widths.id
+  pub id_most : widths.id ≤ max_width
+
+-- the dictionary has the name
+abbrev pub HasName : List (List ℕ) → List ℕ → Type 0
+HasName names name = place_of names name < length names
+
+-- the dictionary has each name of each object in a value
+abbrev mutual
+  pub HasNames : List (List ℕ) → Json → Type 0
+  HasNames names null = Unit {0}
+  HasNames names (boolean b) = Unit {0}
+  HasNames names (number d) = Unit {0}
+  HasNames names (text s) = Unit {0}
+  HasNames names (array elements) = ElementsHaveNames names elements
+  HasNames names (object fields) = FieldsHaveNames names fields
+
+  pub ElementsHaveNames : List (List ℕ) → Parts → Type 0
+  ElementsHaveNames names no_parts = Unit {0}
+  ElementsHaveNames names (part j elements) = HasNames names j × ElementsHaveNames names elements
+
+  pub FieldsHaveNames : List (List ℕ) → Fields → Type 0
+  FieldsHaveNames names no_fields = Unit {0}
+  FieldsHaveNames names (field name j fields) = HasName names name × HasNames names j × FieldsHaveNames names fields
+
+-- each number is in least scale with at most 38 digits, and each text is UTF-8
+abbrev mutual
+  pub IsSound : Json → Type 0
+  IsSound null = Unit {0}
+  IsSound (boolean b) = Unit {0}
+  IsSound (number d) = IsNumber d
+  IsSound (text s) = is_utf8 s ≡ true
+  IsSound (array elements) = AreSound elements
+  IsSound (object fields) = HoldSound fields
+
+  pub AreSound : Parts → Type 0
+  AreSound no_parts = Unit {0}
+  AreSound (part j elements) = IsSound j × AreSound elements
+
+  pub HoldSound : Fields → Type 0
+  HoldSound no_fields = Unit {0}
+  HoldSound (field name j fields) = IsSound j × HoldSound fields
+
+-- the names of all objects in a value
+abbrev mutual
+  pub object_names : Json → List (List ℕ)
+  object_names null = []
+  object_names (boolean b) = []
+  object_names (number d) = []
+  object_names (text s) = []
+  object_names (array elements) = elements_names elements
+  object_names (object fields) = fields_names fields
+
+  pub elements_names : Parts → List (List ℕ)
+  elements_names no_parts = []
+  elements_names (part j elements) = object_names j ++ elements_names elements
+
+  pub fields_names : Fields → List (List ℕ)
+  fields_names no_fields = []
+  fields_names (field name j fields) = name ∷ (object_names j ++ fields_names fields)

@@ -1,0 +1,5 @@
+pub mod Chosen
+pub mod Coded
+pub mod Conditions
+pub mod Layout
+pub mod Primitives
