@@ -19,3 +19,4 @@ pub mod Uniqueness
 pub mod Values
 pub mod Widths
 pub mod TextLengths
+pub mod TwosComplement

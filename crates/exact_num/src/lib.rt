@@ -18,6 +18,7 @@
 //! | `ordering` | `cmp`: the order of the values |
 //! | `fitting` | `fits` and `whole`: numbers as integers |
 //! | `power` | powers of ten |
+//! | `unscaled` | `Unscaled`, `big_of`: integers as bytes, two's complement |
 //! | `laws` | one value has one number, a text is spelled in one way, a printed number reads back |
 #![tactic(auto)]
 
@@ -35,6 +36,7 @@ mod power;
 mod printing;
 mod reading;
 mod significand;
+mod unscaled;
 
 pub use fault::NumFault;
 pub use fitting::{fits, whole};
@@ -47,3 +49,4 @@ pub use number::Number;
 pub use ordering::cmp;
 pub use printing::{print, text_len};
 pub use reading::read_number;
+pub use unscaled::{Unscaled, big_of, integers_read_back};
