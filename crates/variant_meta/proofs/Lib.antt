@@ -1,1 +1,6 @@
+pub mod Kept
+pub mod Offsets
+pub mod Places
+pub mod ReadBack
 pub mod Samples
+pub mod Sizes

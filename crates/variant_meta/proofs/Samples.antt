@@ -1,9 +1,9 @@
 -- Metadata worked out by hand from the standard, byte by byte.
-use Rattle.std.proofs.Common.{◌≡◌, ◌<◌, refl, ℕ, zero, suc, List, [], ◌∷◌, true, Ok, Err, slice_index, arith, lit<}
+use Rattle.std.proofs.Common.{◌≡◌, ◌<◌, refl, ℕ, zero, suc, [], ◌∷◌, true, Ok, Err, slice_index, arith, lit<}
 use Rattle.std.proofs.lemmas.Str.{is_utf8-from_IsUtf8, IsUtf8-from_ascii}
 use Rattle.std.specs.Str.{is_utf8}
 use Rattle.vs_bytes.specs.Numbers.{width_of}
-use Rattle.vs_bytes.specs.declared.rule.Rule.TheVariants.{MetaShort, MetaVersion, MetaOffsets, MetaUtf8, MetaOrder}
+use Rattle.vs_bytes.specs.declared.rule.Rule.TheVariants.{MetaOffsets, MetaOrder}
 use Rattle.variant_meta.specs.Metadata.{header, version, sorted_strings, offset_size, dictionary_size, offset, last_offset, names_start, name, names_from, all_names, falls_from, offsets_fall, names}
 use Rattle.variant_meta.specs.Written.{written_size, written_header, metadata_of, coded_names}
 

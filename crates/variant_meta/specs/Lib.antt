@@ -1,4 +1,5 @@
 pub mod Dictionaries
 pub mod Metadata
+pub mod MetaRefs
 pub mod Names
 pub mod Written
