@@ -1,15 +1,15 @@
 //! The words after `scan`: `[--where FILTER] PATH..`.
 
 ghost use Rattle.std.specs.Prelude.{◌≡◌, None, Some, codes};
-ghost use Rattle.byte_parsing.specs.Outcome.{Finds, Reads};
+ghost use Rattle.vs_bytes.specs.Outcome.{Finds, Reads};
 ghost use Rattle.byte_parsing.specs.Parse.{past_word};
 ghost use Rattle.command_words.specs.Reading.{texts_of, before, ReadsWords};
 ghost use Rattle.command_words.specs.Scan.{is_dashed, with_filter, reading_of, scan_words};
 
 use crate::fault::WordFault;
-use byte_parsing::{Absent, Refused, after_bytes};
+use byte_parsing::after_bytes;
 use std::alloc::Global;
-use vs_bytes::Text;
+use vs_bytes::{Absent, Refused, Text};
 
 /// The greatest number of paths of a query.
 const MAX_PATHS: usize = 64;

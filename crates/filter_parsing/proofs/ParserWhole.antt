@@ -1,10 +1,10 @@
 -- Whole texts, as the parser reads them.
 use Rattle.std.proofs.Common.{◌≡◌, refl, subst, ℕ, List, Option, Some, None, Err}
 use Rattle.std.specs.Option.{option_map}
-use Rattle.byte_parsing.specs.Outcome.{Reads}
-use Rattle.byte_parsing.specs.declared.refused.Absent.{Absent}
-use Rattle.byte_parsing.specs.declared.refused.Refused.{Refused}
-use Rattle.byte_parsing.specs.declared.refused.Refused.TheVariants.{Fault, NoMemory}
+use Rattle.vs_bytes.specs.Outcome.{Reads}
+use Rattle.vs_bytes.specs.declared.refused.Absent.{Absent}
+use Rattle.vs_bytes.specs.declared.refused.Refused.{Refused}
+use Rattle.vs_bytes.specs.declared.refused.Refused.TheVariants.{Fault, NoMemory}
 use Rattle.query_tree.specs.Formula.{Formula}
 use Rattle.filter_parsing.specs.Grammar.{FilterSyntax, formula_of, IsFilter}
 use Rattle.filter_parsing.specs.Reading.{filter_at}

@@ -4,15 +4,16 @@
 //! reads, and the bytes after it. `room` is how many more `not`s and brackets may be opened.
 
 ghost use Rattle.std.specs.Prelude.{◌≡◌};
-ghost use Rattle.byte_parsing.specs.Outcome.{Reads};
+ghost use Rattle.vs_bytes.specs.Outcome.{Reads};
 ghost use Rattle.byte_parsing.specs.Parse.{read_as};
 ghost use Rattle.filter_parsing.specs.Parts.{bracketed_within, denied_within, part_of, meaning_of};
 ghost use Rattle.filter_parsing.specs.Reading.{conj_at, filter_by, unit_at};
 
 use crate::parsed::Parsed;
 use crate::term::read_term;
-use byte_parsing::{Absent, Refused, after_byte, after_word, past_spaces};
+use byte_parsing::{after_byte, after_word, past_spaces};
 use std::alloc::Global;
+use vs_bytes::{Absent, Refused};
 
 // After a `not`.
 #[cycle(parser)]

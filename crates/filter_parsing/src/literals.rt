@@ -1,16 +1,17 @@
 //! Literals: null, truth values, numbers and strings, as in JSON.
 
 ghost use Rattle.std.specs.Prelude.{◌≡◌};
-ghost use Rattle.byte_parsing.specs.Outcome.{Reads};
+ghost use Rattle.vs_bytes.specs.Outcome.{Reads};
 ghost use Rattle.byte_parsing.specs.Parse.{read_as};
 ghost use Rattle.json_tree.specs.View.{view};
 ghost use Rattle.filter_parsing.specs.Grammar.{literal_of};
 ghost use Rattle.filter_parsing.specs.Reading.{literal_at, number_at, string_literal};
 
-use byte_parsing::{Absent, Refused, after_word, split_number};
+use byte_parsing::{after_word, split_number};
 use json_strings::{QuotedFault, read_quoted};
 use json_tree::Tree;
 use std::alloc::Global;
+use vs_bytes::{Absent, Refused};
 
 // All the bytes of numbers that stand first are one number.
 fn read_number(text: &[u8]) -> Result<(Tree, &[u8]), Refused<Absent>>

@@ -1,15 +1,15 @@
 //! Parts of filters that were read.
 
 ghost use Rattle.std.specs.Prelude.{◌≡◌, ◌≤◌, ◌<◌, ◌+◌, MatchOption, Some};
-ghost use Rattle.byte_parsing.specs.Outcome.{Reads};
+ghost use Rattle.vs_bytes.specs.Outcome.{Reads};
 ghost use Rattle.filter_parsing.specs.Limits.{most_terms};
 ghost use Rattle.query_tree.specs.Formula.{conjunction, disjunction, negation};
 ghost use Rattle.query_tree.specs.View.{formula_of};
 
-use byte_parsing::{Absent, Refused};
 use query_tree::{Filter, Path, Test};
 use sqlite_items::Boxed;
 use std::alloc::Global;
+use vs_bytes::{Absent, Refused};
 
 // The most terms that a filter has.
 const MAX_TERMS: usize = 256;

@@ -1,16 +1,16 @@
 //! Whole filters.
 
 ghost use Rattle.std.specs.Option.{option_map};
-ghost use Rattle.byte_parsing.specs.Outcome.{Reads};
+ghost use Rattle.vs_bytes.specs.Outcome.{Reads};
 ghost use Rattle.query_tree.specs.View.{formula_of};
 ghost use Rattle.filter_parsing.specs.Grammar.{formula_of as written_formula};
 ghost use Rattle.filter_parsing.specs.Parses.{Parses};
 ghost use Rattle.filter_parsing.specs.Reading.{filter_at};
 
 use crate::filters::read_filter;
-use byte_parsing::{Absent, Refused};
 use query_tree::Filter;
 use std::alloc::Global;
+use vs_bytes::{Absent, Refused};
 
 // The most bytes of a filter.
 const MAX_BYTES: usize = 65_536;

@@ -1,7 +1,7 @@
 //! Terms: a path, and what is asked of its matches.
 
 ghost use Rattle.std.specs.Prelude.{◌≡◌};
-ghost use Rattle.byte_parsing.specs.Outcome.{Finds, Reads};
+ghost use Rattle.vs_bytes.specs.Outcome.{Finds, Reads};
 ghost use Rattle.byte_parsing.specs.Parse.{read_as};
 ghost use Rattle.query_tree.specs.View.{claim_of};
 ghost use Rattle.filter_parsing.specs.Grammar.{claim_of as written_claim};
@@ -10,10 +10,11 @@ ghost use Rattle.filter_parsing.specs.Reading.{related_at, relation_at, term_at,
 
 use crate::literals::read_literal;
 use crate::parsed::Parsed;
-use byte_parsing::{Absent, Refused, after_byte, after_word, past_spaces};
+use byte_parsing::{after_byte, after_word, past_spaces};
 use path_parsing::read_path;
 use query_tree::{Relation, Test};
 use std::alloc::Global;
+use vs_bytes::{Absent, Refused};
 
 #[tactic(auto, unfolding(crate::specs::Reading::relation_at))]
 fn read_relation(text: &[u8]) -> Option<(Relation, &[u8])>

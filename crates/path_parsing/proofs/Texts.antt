@@ -1,11 +1,11 @@
 -- Whole texts.
 use Rattle.std.proofs.Common.{◌≡◌, ◌∙◌, refl, sym, ap, ℕ, ◌+◌, ◌==◌, ◌<◌, ◌≤◌, List, [], ◌∷◌, true, false, Option, Some, None, Err, length, arith}
 use Rattle.std.proofs.lemmas.Bool.Decides.{nat_tests}
-use Rattle.byte_parsing.specs.Outcome.{Reads}
+use Rattle.vs_bytes.specs.Outcome.{Reads}
 use Rattle.byte_parsing.specs.Parse.{read_as, past}
-use Rattle.byte_parsing.specs.declared.refused.Absent.{Absent}
-use Rattle.byte_parsing.specs.declared.refused.Refused.{Refused}
-use Rattle.byte_parsing.specs.declared.refused.Refused.TheVariants.{Fault, NoMemory}
+use Rattle.vs_bytes.specs.declared.refused.Absent.{Absent}
+use Rattle.vs_bytes.specs.declared.refused.Refused.{Refused}
+use Rattle.vs_bytes.specs.declared.refused.Refused.TheVariants.{Fault, NoMemory}
 use Rattle.byte_parsing.proofs.Holds.{holds_past}
 use Rattle.query_tree.specs.declared.step.Step.{Step}
 use Rattle.path_parsing.specs.Grammar.{StepSyntax, path_of, steps_bytes, path_bytes, IsPathBefore, IsPath}

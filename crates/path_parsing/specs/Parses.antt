@@ -1,8 +1,8 @@
 -- How the reader of a whole text answers.
 use Rattle.std.specs.Prelude.{ℕ, List, Result, Ok, Err}
-use Rattle.byte_parsing.specs.declared.refused.Absent.{Absent}
-use Rattle.byte_parsing.specs.declared.refused.Refused.{Refused}
-use Rattle.byte_parsing.specs.declared.refused.Refused.TheVariants.{Fault, NoMemory}
+use Rattle.vs_bytes.specs.declared.refused.Absent.{Absent}
+use Rattle.vs_bytes.specs.declared.refused.Refused.{Refused}
+use Rattle.vs_bytes.specs.declared.refused.Refused.TheVariants.{Fault, NoMemory}
 use Rattle.query_tree.specs.declared.step.Step.{Step}
 use Rattle.path_parsing.specs.Grammar.{IsPath}
 

@@ -2,15 +2,16 @@
 
 ghost use Rattle.std.specs.Prelude.{◌≡◌, ◌≤◌, length, All};
 ghost use Rattle.exact_num.specs.Spelling.{digits_value};
-ghost use Rattle.byte_parsing.specs.Outcome.{Reads};
+ghost use Rattle.vs_bytes.specs.Outcome.{Reads};
 ghost use Rattle.byte_parsing.specs.Parse.{read_as};
 ghost use Rattle.byte_parsing.specs.Words.{IsDigit};
 ghost use Rattle.path_parsing.specs.Grammar.{step_of};
 ghost use Rattle.path_parsing.specs.Limits.{most_digits};
 ghost use Rattle.path_parsing.specs.Reading.{is_index, index_at};
 
-use byte_parsing::{Absent, Refused, is_whole, split_digits};
+use byte_parsing::{is_whole, split_digits};
 use query_tree::Step;
+use vs_bytes::{Absent, Refused};
 
 // The most digits of an index, so that it fits into 32 bits.
 const MAX_DIGITS: usize = 9;

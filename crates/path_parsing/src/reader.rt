@@ -1,7 +1,7 @@
 //! Paths.
 
 ghost use Rattle.std.specs.Prelude.{◌≡◌, ◌<◌, length, IfOk};
-ghost use Rattle.byte_parsing.specs.Outcome.{Reads};
+ghost use Rattle.vs_bytes.specs.Outcome.{Reads};
 ghost use Rattle.byte_parsing.specs.Parse.{read_as};
 ghost use Rattle.query_tree.specs.View.{steps_of};
 ghost use Rattle.path_parsing.specs.Grammar.{path_of};
@@ -9,9 +9,10 @@ ghost use Rattle.path_parsing.specs.Parses.{Parses};
 ghost use Rattle.path_parsing.specs.Reading.{path_at};
 
 use crate::steps::read_steps;
-use byte_parsing::{Absent, Refused, after_byte};
+use byte_parsing::after_byte;
 use query_tree::Path;
 use std::alloc::Global;
+use vs_bytes::{Absent, Refused};
 
 // The most bytes of a path.
 const MAX_BYTES: usize = 4096;

@@ -4,19 +4,19 @@
 //! step of what that reads, and the bytes after it.
 
 ghost use Rattle.std.specs.Prelude.{◌≡◌};
-ghost use Rattle.byte_parsing.specs.Outcome.{Reads};
+ghost use Rattle.vs_bytes.specs.Outcome.{Reads};
 ghost use Rattle.byte_parsing.specs.Parse.{read_as};
 ghost use Rattle.path_parsing.specs.Grammar.{step_of, path_of};
 ghost use Rattle.path_parsing.specs.Limits.{most_steps};
 ghost use Rattle.path_parsing.specs.Reading.{name_at, string_step, inside_at, bracket_at, begins_step, step_at, steps_at};
 
 use crate::index::read_index;
-use byte_parsing::{Absent, Refused, after_byte, split_name, starts_name};
+use byte_parsing::{after_byte, split_name, starts_name};
 use json_strings::{QuotedFault, read_quoted};
 use query_tree::{Step, Steps};
 use smallvec::SmallVec;
 use std::alloc::Global;
-use vs_bytes::Text;
+use vs_bytes::{Absent, Refused, Text};
 
 // The most steps of a path.
 const MAX_STEPS: usize = 64;

@@ -4,10 +4,10 @@ ghost use Rattle.query_tree.specs.View.{steps_of, formula_of};
 ghost use Rattle.path_query.specs.Texts.{ParsesPath, ParsesFilter};
 
 use crate::fault::TextFault;
-use byte_parsing::{Absent, Refused};
 use filter_parsing::is_suited;
 use query_tree::{Filter, Path};
 use std::alloc::Global;
+use vs_bytes::{Absent, Refused};
 
 /// Reads a text that is a path: at most 64 steps and 4,096 bytes.
 pub fn parse_path(alloc: Global, text: &str) -> Result<Path, TextFault>

@@ -1,5 +1,5 @@
 use Rattle.std.proofs.Common.{◌+◌, ◌-◌, length, arith, codes}
-use Rattle.byte_parsing.proofs.Refusals.{fails}
+use Rattle.vs_bytes.proofs.Refusals.{fails}
 use Rattle.std.proofs.lemmas.Result.{err_from_is_err_and}
 use Rattle.query_tree.specs.Formula.{conjunction, disjunction}
 use Rattle.filter_parsing.specs.Grammar.{both, either}

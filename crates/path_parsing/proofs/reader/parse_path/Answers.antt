@@ -3,9 +3,9 @@ use Rattle.std.proofs.lemmas.Result.{err_from_is_err_and}
 use Rattle.query_tree.specs.declared.step.Step.{Step}
 use Rattle.path_parsing.specs.Reading.{path_at}
 use Rattle.path_parsing.specs.Grammar.{path_of}
-use Rattle.byte_parsing.specs.Outcome.{Reads}
+use Rattle.vs_bytes.specs.Outcome.{Reads}
 use Rattle.byte_parsing.specs.Parse.{read_as}
-use Rattle.byte_parsing.specs.declared.refused.Absent.{Absent}
+use Rattle.vs_bytes.specs.declared.refused.Absent.{Absent}
 use Rattle.path_parsing.proofs.Texts.{is_path, no_path_rest, fault_is}
 use Rattle.path_parsing.proofs.reader.parse_path.Goals as goal
 

@@ -3,7 +3,7 @@ use Rattle.std.proofs.lemmas.Result.{err_from_is_err_and}
 use Rattle.query_tree.specs.declared.step.Step.{Step}
 use Rattle.path_parsing.specs.Reading.{steps_at}
 use Rattle.byte_parsing.specs.Parse.{read_as}
-use Rattle.byte_parsing.proofs.Refusals.{fails}
+use Rattle.vs_bytes.proofs.Refusals.{fails}
 use Rattle.path_parsing.specs.Grammar.{path_of}
 use Rattle.path_parsing.proofs.Turns.{steps_before, all_read, too_many, no_step, next_step}
 use Rattle.path_parsing.proofs.steps.read_steps.Goals as goal
