@@ -1,4 +1,4 @@
--- the parts that a step keeps, and that names rise in them
+-- the elements of an array
 pub mod Parts
 -- texts after commas, and the bracket in place of the first comma
 pub mod Printed

@@ -1,15 +1,13 @@
 -- Texts after commas, and the bracket in place of the first comma.
-use Rattle.std.proofs.Common.{◌≡◌, ◌∙◌, ℕ, ◌+◌, ◌<◌, ◌≤◌, subst, arith, List, [], ◌∷◌, ◌++◌, length, take, drop, get_or, map, refl, sym, ap, append_assoc, Option, Some, None}
+use Rattle.std.proofs.Common.{◌≡◌, ◌∙◌, ℕ, ◌+◌, ◌<◌, ◌≤◌, arith, List, [], ◌∷◌, ◌++◌, length, take, drop, get_or, map, refl, sym, ap, append_assoc, Option, Some, None}
 use Rattle.std.proofs.Math.Seq.{take-append_seam, drop-append-add}
 use Rattle.std.proofs.lemmas.List.{drop_more, length-take, take-append-le, take-append-drop}
 use Rattle.std.specs.List.{flat_map}
 use Rattle.json_tree.specs.Json.{Json, Parts, no_parts, part, parts_of, array}
 use Rattle.std.specs.Io.{StartsWith}
-use Rattle.json_tree.specs.Order.{AreOrdered}
 use Rattle.json_tree.specs.Text.{text_of, parts_text, more_parts}
 use Rattle.json_tree.specs.View.{view}
 use Rattle.json_tree.specs.declared.types.Tree.{Tree}
-use Rattle.json_tree.specs.declared.types.Tree.TheVariants.{Null}
 use Rattle.query_tree.specs.View.{steps_of}
 use Rattle.query_tree.specs.declared.path.Path.{Path}
 use Rattle.query_tree.specs.declared.step.Step.{Step}
@@ -25,12 +23,6 @@ starts_again new now old e f =
     ∙ take-append-le (length old) (take (length now) new) (drop (length now) new) (omega (arith, ap length e))
     ∙ ap (take (length old)) e ∙ f
 
--- the parts after the first of ordered parts are ordered
-pub ordered_turn : (ts : List Tree) (i : ℕ) → i < length ts → AreOrdered (parts_of (map view (drop i ts))) → AreOrdered (parts_of (map view (drop (i + 1) ts)))
-ordered_turn ts i lt h = let more : drop i ts ≡ get_or ts i Null ∷ drop (i + 1) ts = drop_more ts i Null lt in
-    let all : AreOrdered (parts_of (map view (get_or ts i Null ∷ drop (i + 1) ts))) = subst (λ (xs : List Tree). AreOrdered (parts_of (map view xs))) more h in
-    all.1
-
 more_joined : (xs ys : List Json) → more_parts (parts_of (xs ++ ys)) ≡ more_parts (parts_of xs) ++ more_parts (parts_of ys)
 more_joined [] ys = refl
 more_joined (x ∷ xs) ys = rw (more_joined xs ys) (ap (λ (s : List ℕ). 44 ∷ s) (sym (append_assoc (text_of x) (more_parts (parts_of xs)) (more_parts (parts_of ys)))))
@@ -42,11 +34,11 @@ pub matches_turn : (now new all : List ℕ) (steps : List Step) (ts : List Tree)
     → new ++ more_parts (parts_of (flat_map (matches steps) (map view (drop (i + 1) ts)))) ≡ all
 matches_turn now new all steps ts i t lt e before done =
     let here : List Json = matches steps (view t) in
-    let behind : List Json = flat_map (matches steps) (map view (drop (i + 1) ts)) in
+    let after : List Json = flat_map (matches steps) (map view (drop (i + 1) ts)) in
     let more : drop i ts ≡ t ∷ drop (i + 1) ts = drop_more ts i t lt ∙ ap (λ (x : Tree). x ∷ drop (i + 1) ts) (sym e) in
-    ap (λ (s : List ℕ). s ++ more_parts (parts_of behind)) done
-    ∙ append_assoc now (more_parts (parts_of here)) (more_parts (parts_of behind))
-    ∙ ap (λ (s : List ℕ). now ++ s) (sym (more_joined here behind))
+    ap (λ (s : List ℕ). s ++ more_parts (parts_of after)) done
+    ∙ append_assoc now (more_parts (parts_of here)) (more_parts (parts_of after))
+    ∙ ap (λ (s : List ℕ). now ++ s) (sym (more_joined here after))
     ∙ ap (λ (xs : List Tree). now ++ more_parts (parts_of (flat_map (matches steps) (map view xs)))) (sym more)
     ∙ before
 
@@ -61,11 +53,11 @@ pub members_turn : (now new all : List ℕ) (paths : List Path) (row : Option Js
     → new ++ after_commas (members (map steps_of (drop (i + 1) paths)) row) ≡ all
 members_turn now new all paths row i path lt e before done =
     let here : Option (List ℕ) = value_text (steps_of path) (at (steps_of path) row) in
-    let behind : List (List ℕ) = members (map steps_of (drop (i + 1) paths)) row in
+    let after : List (List ℕ) = members (map steps_of (drop (i + 1) paths)) row in
     let more : drop i paths ≡ path ∷ drop (i + 1) paths = drop_more paths i path lt ∙ ap (λ (x : Path). x ∷ drop (i + 1) paths) (sym e) in
-    ap (λ (s : List ℕ). s ++ after_commas behind) done
-    ∙ append_assoc now (member_text (steps_of path) here) (after_commas behind)
-    ∙ ap (λ (s : List ℕ). now ++ s) (sym (member_first (steps_of path) here behind))
+    ap (λ (s : List ℕ). s ++ after_commas after) done
+    ∙ append_assoc now (member_text (steps_of path) here) (after_commas after)
+    ∙ ap (λ (s : List ℕ). now ++ s) (sym (member_first (steps_of path) here after))
     ∙ ap (λ (xs : List Path). now ++ after_commas (members (map steps_of xs) row)) (sym more)
     ∙ before
 

@@ -1,8 +1,7 @@
 -- Rows, and trees found in them, as plain data.
-use Rattle.std.specs.Prelude.{List, map, Option, None, Some, option_map}
+use Rattle.std.specs.Prelude.{List, map, Option, option_map}
 use Rattle.std.specs.Borrow.{Bor}
 use Rattle.json_tree.specs.Json.{Json}
-use Rattle.json_tree.specs.Order.{IsOrdered}
 use Rattle.json_tree.specs.View.{view}
 use Rattle.json_tree.specs.declared.types.Tree.{Tree}
 
@@ -11,8 +10,3 @@ row_of row = option_map (λ tree. view tree.now) row
 
 abbrev pub found_of : List (Bor Tree) → List Json
 found_of trees = map (λ tree. view tree.now) trees
-
--- the names of each object in the row rise, if there is a row
-abbrev pub IsOrderedRow : Option Json → Type 0
-IsOrderedRow None = Unit {0}
-IsOrderedRow (Some json) = IsOrdered json

@@ -7,7 +7,6 @@ ghost use Rattle.std.specs.Prelude.{◌≡◌, ◌≤◌, ◌+◌, ◌∷◌, �
 ghost use Rattle.std.specs.Io.{StartsWith};
 ghost use Rattle.byte_parsing.specs.Bytes.{comma, colon};
 ghost use Rattle.json_tree.specs.Json.{array, parts_of};
-ghost use Rattle.json_tree.specs.Order.{IsOrdered};
 ghost use Rattle.json_tree.specs.Text.{quoted, text_of, more_parts};
 ghost use Rattle.json_tree.specs.View.{view};
 ghost use Rattle.query_tree.specs.Asked.{query_of};
@@ -16,7 +15,7 @@ ghost use Rattle.query_tree.specs.View.{steps_of};
 ghost use Rattle.path_query.specs.Answer.{value_text, members, after_commas, line_of, output_of};
 ghost use Rattle.path_query.specs.Matches.{list_of, matches, at};
 ghost use Rattle.path_query.specs.Members.{member_text};
-ghost use Rattle.path_query.specs.Rows.{row_of, IsOrderedRow};
+ghost use Rattle.path_query.specs.Rows.{row_of};
 
 use crate::taking::taken;
 use crate::truth::holds;
@@ -26,8 +25,7 @@ use vs_bytes::NoMemory;
 
 // The match of steps without a star: there is one at most.
 fn only<'t>(steps: &[Step], row: Option<&'t Tree>) -> Option<&'t Tree>
-    requires ordered { IsOrderedRow (row_of row) }
-    requires starless { has_star steps.now ≡ false }
+    requires { has_star steps.now ≡ false }
     ensures { list_of (row_of result) ≡ at steps.now (row_of row.entry) }
 {
     let mut here = row?;
@@ -39,7 +37,6 @@ fn only<'t>(steps: &[Step], row: Option<&'t Tree>) -> Option<&'t Tree>
 
 // Each match after a comma.
 fn put_matches(into: &mut Vec<u8>, steps: &[Step], tree: &Tree) -> Result<(), NoMemory>
-    requires { IsOrdered (view tree.now) }
     ensures ok { OnOk result (into.new.items ≡ into.old.items ++ more_parts (parts_of (matches steps.now (view tree.now)))) }
     ensures grows { StartsWith into.new.items into.old.items }
 {
@@ -72,7 +69,6 @@ fn put_opening(into: &mut Vec<u8>, start: usize, bracket: u8) -> Result<(), NoMe
 }
 
 fn put_all(into: &mut Vec<u8>, steps: &[Step], row: Option<&Tree>) -> Result<(), NoMemory>
-    requires { IsOrderedRow (row_of row) }
     ensures ok { OnOk result (into.new.items ≡ into.old.items ++ more_parts (parts_of (at steps.now (row_of row.entry)))) }
     ensures grows { StartsWith into.new.items into.old.items }
 {
@@ -83,7 +79,6 @@ fn put_all(into: &mut Vec<u8>, steps: &[Step], row: Option<&Tree>) -> Result<(),
 }
 
 fn put_array(into: &mut Vec<u8>, steps: &[Step], row: Option<&Tree>) -> Result<(), NoMemory>
-    requires { IsOrderedRow (row_of row) }
     ensures ok { OnOk result (into.new.items ≡ into.old.items ++ text_of (array (parts_of (at steps.now (row_of row.entry))))) }
     ensures grows { StartsWith into.new.items into.old.items }
 {
@@ -106,7 +101,6 @@ fn put_name(into: &mut Vec<u8>, path: &Path) -> Result<(), NoMemory>
 }
 
 fn put_member(into: &mut Vec<u8>, path: &Path, row: Option<&Tree>) -> Result<(), NoMemory>
-    requires { IsOrderedRow (row_of row) }
     ensures ok { OnOk result (into.new.items ≡ into.old.items ++ member_text (steps_of path.now) (value_text (steps_of path.now) (at (steps_of path.now) (row_of row.entry)))) }
     ensures grows { StartsWith into.new.items into.old.items }
 {
@@ -122,7 +116,6 @@ fn put_member(into: &mut Vec<u8>, path: &Path, row: Option<&Tree>) -> Result<(),
 }
 
 fn put_members(into: &mut Vec<u8>, paths: &[Path], row: Option<&Tree>) -> Result<(), NoMemory>
-    requires { IsOrderedRow (row_of row) }
     ensures ok { OnOk result (into.new.items ≡ into.old.items ++ after_commas (members (map steps_of paths.now) (row_of row.entry))) }
     ensures grows { StartsWith into.new.items into.old.items }
 {
@@ -133,7 +126,6 @@ fn put_members(into: &mut Vec<u8>, paths: &[Path], row: Option<&Tree>) -> Result
 }
 
 fn put_line(into: &mut Vec<u8>, paths: &[Path], row: Option<&Tree>) -> Result<(), NoMemory>
-    requires { IsOrderedRow (row_of row) }
     ensures ok { OnOk result (into.new.items ≡ into.old.items ++ line_of (map steps_of paths.now) (row_of row.entry)) }
     ensures grows { StartsWith into.new.items into.old.items }
 {
@@ -147,7 +139,6 @@ fn put_line(into: &mut Vec<u8>, paths: &[Path], row: Option<&Tree>) -> Result<()
 /// Appends the printed line of a row: an object with a member for each path that has something to
 /// show, and LF. After an `Err` `into` is as before.
 pub fn line(into: &mut Vec<u8>, query: &Query, row: Option<&Tree>) -> Result<(), NoMemory>
-    requires { IsOrderedRow (row_of row) }
     ensures ok { OnOk result (into.new.items ≡ into.old.items ++ line_of (query_of query.now).paths (row_of row.entry)) }
     ensures err { OnErr result (into.new.items ≡ into.old.items) }
 {
@@ -163,7 +154,6 @@ pub fn line(into: &mut Vec<u8>, query: &Query, row: Option<&Tree>) -> Result<(),
 /// `into` is as before.
 #[tactic(auto, unfolding(crate::specs::Answer::output_of))]
 pub fn print_row(into: &mut Vec<u8>, query: &Query, row: Option<&Tree>) -> Result<(), NoMemory>
-    requires { IsOrderedRow (row_of row) }
     ensures ok { OnOk result (into.new.items ≡ into.old.items ++ output_of (query_of query.now) (row_of row.entry)) }
     ensures err { OnErr result (into.new.items ≡ into.old.items) }
 {

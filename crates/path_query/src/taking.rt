@@ -1,8 +1,6 @@
 //! The parts of a value that one step of a path keeps.
 
 ghost use Rattle.std.specs.Prelude.{◌≡◌, map, option_map, slice_get};
-ghost use Rattle.json_tree.specs.Json.{parts_of};
-ghost use Rattle.json_tree.specs.Order.{IsOrdered, AreOrdered};
 ghost use Rattle.json_tree.specs.View.{view};
 ghost use Rattle.path_query.specs.Matches.{field_of, all_of, list_of, parts_at};
 
@@ -11,7 +9,6 @@ use query_tree::Step;
 use std::slice;
 
 fn field<'t>(tree: &'t Tree, name: &str) -> Option<&'t Tree>
-    requires { IsOrdered (view tree.now) }
     ensures { option_map (λ found. view found.now) result ≡ field_of name.now (view tree.now) }
 {
     match tree {
@@ -46,9 +43,7 @@ fn listed<'t>(found: Option<&'t Tree>) -> &'t [Tree]
 
 // The parts of a value that a step keeps, in place and in order.
 pub(crate) fn taken<'t>(step: &Step, tree: &'t Tree) -> &'t [Tree]
-    requires { IsOrdered (view tree.now) }
-    ensures parts { map view result.now ≡ parts_at step.now (view tree.now) }
-    ensures ordered { AreOrdered (parts_of (map view result.now)) }
+    ensures { map view result.now ≡ parts_at step.now (view tree.now) }
 {
     match step {
         Step::Field(name) => listed(field(tree, name.as_str())),

@@ -2,11 +2,10 @@
 
 ghost use Rattle.std.specs.Prelude.{◌≡◌};
 ghost use Rattle.std.specs.List.{list_any};
-ghost use Rattle.json_tree.specs.Order.{IsOrdered};
 ghost use Rattle.json_tree.specs.View.{view};
 ghost use Rattle.query_tree.specs.View.{steps_of, claim_of, formula_of};
 ghost use Rattle.path_query.specs.Matches.{matches, at};
-ghost use Rattle.path_query.specs.Rows.{row_of, IsOrderedRow};
+ghost use Rattle.path_query.specs.Rows.{row_of};
 ghost use Rattle.path_query.specs.Serves.{serves};
 ghost use Rattle.path_query.specs.Truth.{is_ordered, is_same, stands_to, is_true_of, holds};
 
@@ -74,7 +73,6 @@ fn serves(test: &Test, found: &Tree) -> bool
 
 // It ends at the first match that serves.
 fn any_match(steps: &[Step], tree: &Tree, test: &Test) -> bool
-    requires { IsOrdered (view tree.now) }
     ensures { result ≡ list_any (serves (claim_of test.now)) (matches steps.now (view tree.now)) }
 {
     match steps.split_first() {
@@ -91,7 +89,6 @@ fn any_match(steps: &[Step], tree: &Tree, test: &Test) -> bool
 }
 
 fn is_true(path: &Path, test: &Test, row: Option<&Tree>) -> bool
-    requires { IsOrderedRow (row_of row) }
     ensures { result ≡ is_true_of (at (steps_of path.now) (row_of row.entry)) (claim_of test.now) }
 {
     let any = match row {
@@ -107,7 +104,6 @@ fn is_true(path: &Path, test: &Test, row: Option<&Tree>) -> bool
 /// Whether a filter holds in a row. It takes no memory.
 #[cycle(holds)]
 pub fn holds(filter: &Filter, row: Option<&Tree>) -> bool
-    requires { IsOrderedRow (row_of row) }
     ensures { result ≡ holds (formula_of filter.now) (row_of row.entry) }
 {
     match filter {

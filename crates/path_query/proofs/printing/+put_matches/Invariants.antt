@@ -2,7 +2,6 @@ use Rattle.std.proofs.Common.{◌≡◌, ◌++◌, map, drop, length}
 use Rattle.std.specs.Prelude.{flat_map}
 use Rattle.std.specs.Io.{StartsWith}
 use Rattle.json_tree.specs.Json.{parts_of}
-use Rattle.json_tree.specs.Order.{AreOrdered}
 use Rattle.json_tree.specs.Text.{more_parts}
 use Rattle.json_tree.specs.View.{view}
 use Rattle.path_query.specs.Matches.{matches}
@@ -13,7 +12,6 @@ decreases-put_matches l = length l.steps.now
 
 abbrev pub invariant-loop-part : goal.invariant-loop-part
 invariant-loop-part l = record {
-  ordered : AreOrdered (parts_of (map view (drop l.part-index l.part-items)));
   text : l.into.items ++ more_parts (parts_of (flat_map (matches l.others) (map view (drop l.part-index l.part-items)))) ≡ l.fn.into.items ++ more_parts (parts_of (matches l.fn.steps (view l.fn.tree)));
   grows : StartsWith l.into.items l.fn.into.items;
 }

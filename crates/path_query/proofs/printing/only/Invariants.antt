@@ -1,5 +1,4 @@
 use Rattle.std.proofs.Common.{◌≡◌, drop, false}
-use Rattle.json_tree.specs.Order.{IsOrdered}
 use Rattle.json_tree.specs.View.{view}
 use Rattle.query_tree.specs.PathText.{has_star}
 use Rattle.path_query.specs.Matches.{matches, at}
@@ -8,7 +7,6 @@ use Rattle.path_query.proofs.printing.only.Given as goal
 
 abbrev pub invariant-loop-step : goal.invariant-loop-step
 invariant-loop-step l = record {
-  ordered : IsOrdered (view l.here);
   starless : has_star (drop l.step-index l.steps) ≡ false;
   found : matches (drop l.step-index l.steps) (view l.here) ≡ at l.fn.steps (row_of l.fn.row);
 }
