@@ -11,9 +11,11 @@
 //! | `matching` | `at`: the matches of a path |
 //! | `truth` | `holds`: whether a filter holds |
 //! | `printing` | `line`: the printed line of a row; `print_row`: the line where the filter holds |
+//! | `laws` | a path without a star has one match at most |
 #![tactic(auto)]
 
 mod fault;
+mod laws;
 mod matching;
 mod printing;
 mod taking;
@@ -21,6 +23,7 @@ mod texts;
 mod truth;
 
 pub use fault::TextFault;
+pub use laws::starless_paths_match_once;
 pub use matching::at;
 pub use printing::{line, print_row};
 pub use query_tree::{Filter, Path, PathList, Query, Relation, Step, Steps, Test};
