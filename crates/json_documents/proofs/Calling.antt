@@ -173,15 +173,15 @@ module _ (s t : State) (before after : Device) where
 
   read_open : (input : List ℕ) (ds : List Json) (g : GivenOpen input before.bytes s ds) → Comes s g.rest t after.bytes (Err reading.ReadFault) → GivesRead input after.bytes ds
   read_open input ds g k =
-      let p = k.1.passed in
+      let p = k.2.passed in
       let found_is : first_line s.number (lines_of s.room (p.taken ++ [])) ≡ found_end = sym (p.alike []) ∙ ap (first_line t.number) (no_lines t.room) in
       let whole = g.ahead (p.taken ++ []) [] at_end (walk_end (lines_of s.room (p.taken ++ [])) s.number found_is) in
       record {
         given = g.given ++ p.taken;
         held = t.held;
-        rest = k.1.after;
-        is_left = k.1.is_left;
-        splits = g.splits ∙ ap (λ (l : List ℕ). g.given ++ l) p.splits ∙ sym (append_assoc g.given p.taken (t.held ++ k.1.after));
+        rest = k.2.after;
+        is_left = k.2.is_left;
+        splits = g.splits ∙ ap (λ (l : List ℕ). g.given ++ l) p.splits ∙ sym (append_assoc g.given p.taken (t.held ++ k.2.after));
         whole = whole_both g.given p.taken g.whole p.whole;
         no_lf = k.0;
         has = has_at g.given (p.taken ++ []) ds [] at_end (g.given ++ p.taken) ds (ap (λ (l : List ℕ). g.given ++ l) (append-nil p.taken)) (append-nil ds) whole;

@@ -2,7 +2,7 @@
 use Rattle.std.proofs.Common.{◌≡◌, ◌∙◌, ℕ, ◌+◌, ◌-◌, ◌<◌, ◌≤◌, true, false, List, [], ◌∷◌, ◌++◌, Ok, Err, inr, take, drop, length, refl, sym, ap, arith}
 use Rattle.std.specs.List.{list_all}
 use Rattle.std.proofs.lemmas.Bool.{le-leb, true≢false}
-use Rattle.std.proofs.lemmas.List.{append-nil, length-take-le, take_all, take-append-drop}
+use Rattle.std.proofs.lemmas.List.{append-nil, drop_all, length-take-le, take_all, take-append-drop}
 use Rattle.json_lines.specs.Cut.{Lines, none, line, lines_of, first_line, found_line, is_blank, is_blank_byte, max_line}
 use Rattle.json_lines.specs.Next.{State, ended, lines_ahead, is_decided}
 use Rattle.json_lines.specs.Takings.{AreWhole, Passed, Took}
@@ -91,6 +91,8 @@ last_closed s t u size (next.Line n bytes) opened whole given g e =
     let some : 0 < length s.held = some_bytes s.held white in (
       found_is ∙ ap (λ (k : ℕ). found_line k s.held none) (sym g.0) ∙ ap (λ (xs : List ℕ). found_line n xs none) (sym (g.1 ∙ all)),
       omega (arith, some, whole, opened.within, ap (λ (v : State). v.room) g.2, ap (λ (v : State). v.room) e),
+      ap (λ (v : State). v.number) e ∙ ap (λ (v : State). v.number) g.2 ∙ sym g.0,
+      ap (λ (v : State). v.held) e ∙ ap (λ (v : State). v.held) g.2 ∙ drop_all size s.held (omega (arith, whole)),
       ap (λ (v : State). v.kept) e,
     )
 last_closed s t u size (next.TooLong n) opened whole given g e = absurd g

@@ -4,7 +4,7 @@ use Rattle.std.specs.Prelude.{Contains}
 use Rattle.std.specs.Io.KnownBytes.{Consumes, IsAtEnd, Keeps}
 use Rattle.outside.specs.Devices.{Device}
 use Rattle.json_lines.specs.Cut.{lines_of, first_line, found_long, found_over, is_blank}
-use Rattle.json_lines.specs.Next.{State, found}
+use Rattle.json_lines.specs.Next.{State, found, is_decided}
 use Rattle.json_lines.specs.Front.{IsLine, IsLong, IsOpen, GivesLine, ComesLast, Fills}
 use Rattle.json_lines.specs.Takings.{AreWhole, Passed, PassedFrom, Took, IsBounded, Comes, Arrives}
 use Rattle.json_lines.specs.declared.answer.Next.{Next}
@@ -168,7 +168,7 @@ arrives_last s t u rest left r f within end g = record { comes = by r g; bounded
     found_is = let one : left ≡ Some f.after = f.is_left in let two : left ≡ Some [] = at_end in let none : f.after ≡ [] = cc in sym (from_found s t rest left f) ∙ ap (found t) none
 
     by : (a : Result Next LineFault) → ComesLast t u a → Comes s rest u left a
-    by (Ok (next.Line n bytes)) h = inr (record { gives = found_is ∙ h.0; at_end = at_end; kept = h.2 })
+    by (Ok (next.Line n bytes)) h = inr (record { gives = found_is ∙ h.0; at_end = at_end; number = h.2; held = h.3; kept = h.4 })
     by (Ok (next.TooLong n)) h = absurd h
     by (Ok next.End) h = (found_is ∙ h.0, at_end)
     by (Err fault.NoMemory) h = arrives_same s t u rest left h f
@@ -179,7 +179,11 @@ pub arrives_failed : (s t u : State) (rest : List ℕ) (before after : Device) (
 arrives_failed s t u rest before after fault.ReadFault f within is g =
     let left = from_failed s t rest before.bytes after.bytes f g.1 in
     record {
-      comes = (λ lf. is.plain (subst (λ (v : State). Contains v.held 10) g.0 lf), arrives_same s t u rest after.bytes g.0 left);
+      comes = (
+        λ lf. is.plain (subst (λ (v : State). Contains v.held 10) g.0 lf),
+        ap (λ (v : State). is_decided (lines_of v.room v.held)) g.0 ∙ is.undecided,
+        arrives_same s t u rest after.bytes g.0 left,
+      );
       bounded = from_bounded s t rest after.bytes left within;
     }
 arrives_failed s t u rest before after fault.InputTooLong f within is g = absurd g

@@ -75,7 +75,7 @@ GivesLine size taken s t (Err fault.ReadFault) = ⊥
 
 -- what a call answers where nothing is left in the source; after a last line the end is kept
 abbrev pub ComesLast : State → State → Result Next LineFault → Type 0
-ComesLast s t (Ok (next.Line n bytes)) = (found s [] ≡ found_line n bytes none) × (t.room < s.room) × (t.kept ≡ ended)
+ComesLast s t (Ok (next.Line n bytes)) = (found s [] ≡ found_line n bytes none) × (t.room < s.room) × (t.number ≡ n) × (t.held ≡ []) × (t.kept ≡ ended)
 ComesLast s t (Ok (next.TooLong n)) = ⊥
 ComesLast s t (Ok next.End) = (found s [] ≡ found_end) × (t ≡ s)
 ComesLast s t (Err fault.NoMemory) = t ≡ s

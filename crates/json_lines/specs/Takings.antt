@@ -1,8 +1,8 @@
 -- What a call of `Lines::next` takes of what is ahead of it: the bytes that are held, and those that are
 -- left in the source. What is said holds for every tail that the bytes taken could have had.
-use Rattle.std.specs.Prelude.{◌≡◌, ◌⊎◌, ℕ, ◌+◌, ◌≤◌, List, [], ◌∷◌, ◌++◌, Option, Some, Result, Ok, Err, Contains, length}
+use Rattle.std.specs.Prelude.{◌≡◌, ◌⊎◌, ℕ, ◌+◌, ◌≤◌, List, [], ◌∷◌, ◌++◌, Option, Some, Result, Ok, Err, Contains, length, false}
 use Rattle.json_lines.specs.Cut.{none, found_end, found_line, found_long, found_over, lines_of, first_line}
-use Rattle.json_lines.specs.Next.{State, ended, found}
+use Rattle.json_lines.specs.Next.{State, ended, found, is_decided}
 use Rattle.json_lines.specs.declared.answer.Next.{Next}
 use Rattle.json_lines.specs.declared.answer.Next.TheVariants as next
 use Rattle.json_lines.specs.declared.answer.LineFault.{LineFault}
@@ -46,6 +46,8 @@ pub record TookFrom (s : State) (rest : List ℕ) (t : State) (left : Option (Li
 pub record TookLast (s : State) (rest : List ℕ) (t : State) (left : Option (List ℕ)) (n : ℕ) (bytes : List ℕ) : Type 0 where
   pub gives : found s rest ≡ found_line n bytes none
   pub at_end : left ≡ Some []
+  pub number : t.number ≡ n
+  pub held : t.held ≡ []
   pub kept : t.kept ≡ ended
 
 -- a call at `s` that leaves `t`, where the source had `rest`, and no answer was kept
@@ -54,8 +56,8 @@ Comes s rest t left (Ok (next.Line n bytes)) = TookFrom s rest t left n bytes �
 Comes s rest t left (Ok (next.TooLong n)) = (found s rest ≡ found_long n) × PassedFrom s rest t left
 Comes s rest t left (Ok next.End) = (found s rest ≡ found_end) × (left ≡ Some [])
 Comes s rest t left (Err fault.InputTooLong) = (found s rest ≡ found_over) × PassedFrom s rest t left
--- every line whose LF was read has been given
-Comes s rest t left (Err fault.ReadFault) = (Contains t.held 10 → ⊥) × PassedFrom s rest t left
+-- every line whose LF was read has been given, and the bytes that were read don't decide the answer
+Comes s rest t left (Err fault.ReadFault) = (Contains t.held 10 → ⊥) × (is_decided (lines_of t.room t.held) ≡ false) × PassedFrom s rest t left
 Comes s rest t left (Err fault.NoMemory) = PassedFrom s rest t left
 
 -- what was taken of the source, with what was held, is at most one byte more than still counts
