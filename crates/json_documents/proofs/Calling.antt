@@ -1,9 +1,9 @@
 -- What a call of the reader of lines says of the documents.
-use Rattle.std.proofs.Common.{◌≡◌, ◌∙◌, ℕ, ◌+◌, List, [], ◌∷◌, ◌++◌, Option, Some, Result, Ok, Err, inl, inr, length, refl, sym, ap, subst, arith, append_assoc, append-nil, length-append}
+use Rattle.std.proofs.Common.{◌≡◌, ◌∙◌, ℕ, ◌+◌, ◌≤◌, List, [], ◌∷◌, ◌++◌, Option, Some, Result, Ok, Err, inl, inr, length, refl, sym, ap, subst, arith, append_assoc, append-nil, length-append}
 use Rattle.outside.specs.Devices.{Device}
 use Rattle.json_tree.specs.Json.{Json}
 use Rattle.json_lines.specs.Cut.{Lines, none, lines_of, first_line, found_end, found_line}
-use Rattle.json_lines.specs.Next.{Kept, State, nothing, ended, found, Repeats, Counted}
+use Rattle.json_lines.specs.Next.{Kept, State, nothing, ended, found, Repeats, IsKept, LeavesLess, Counted}
 use Rattle.json_lines.specs.Takings.{TookFrom, TookLast, Comes, IsBounded}
 use Rattle.json_lines.specs.declared.answer.Next.{Next}
 use Rattle.json_lines.specs.declared.answer.Next.TheVariants as next
@@ -21,6 +21,12 @@ use Rattle.json_documents.specs.Given.{at_start, IsGoing, GivenOpen, GivenLast, 
 use Rattle.json_documents.specs.declared.faults.InputFault.{InputFault}
 use Rattle.json_documents.specs.declared.faults.InputFault.TheVariants as fault
 use Rattle.json_documents.proofs.Walks.{walk_document, walk_faulty, walk_long, walk_end, walk_over, walked}
+
+pub called : (s t : State) (before after : Device) (r : Result Next LineFault) → Repeats s.kept r → ((s.kept ≡ nothing → ⊥) → after ≡ before) → IsKept s.kept t.kept r
+    → (s.kept ≡ nothing → (rest : List ℕ) → before.bytes ≡ Some rest → Comes s rest t after.bytes r) → ((rest : List ℕ) → before.bytes ≡ Some rest → IsBounded s rest after.bytes) → LeavesLess s t r
+    → (s.kept ≡ nothing → Counted before after r) → Call s t before after r
+called s t before after r again untouched keeps comes bounded less counts =
+    record { again = again; untouched = untouched; keeps = keeps; comes = comes; bounded = bounded; less = less; counts = counts }
 
 not_open : (k : Kept) → k ≡ ended → k ≡ nothing → ⊥
 not_open k e f = cc
@@ -44,11 +50,24 @@ module _ (input : List ℕ) (left : Option (List ℕ)) (s : State) (ds : List Js
   open_begins : Begins input ds
   open_begins = let w = walked (lines_of s.room (s.held ++ g.rest)) s.number in (w.documents, w.ending, open_has w.documents w.ending w.walks)
 
-  open_size : length input ≡ length g.given + (length s.held + length g.rest)
-  open_size = omega (arith, ap length g.splits, length-append g.given (s.held ++ g.rest), length-append s.held g.rest)
-
   open_within : (new : Option (List ℕ)) → IsBounded s g.rest new → IsWithinLimit input new
-  open_within new b after e = omega (arith, open_size, g.counts, b after e)
+  open_within new b =
+      let held : s.held ++ g.rest ≡ (s.held ++ b.read) ++ b.after = ap (λ (l : List ℕ). s.held ++ l) b.reads ∙ sym (append_assoc s.held b.read b.after) in
+      record {
+        read = g.given ++ (s.held ++ b.read);
+        after = b.after;
+        is_left = b.is_left;
+        reads = g.splits ∙ ap (λ (l : List ℕ). g.given ++ l) held ∙ sym (append_assoc g.given (s.held ++ b.read) b.after);
+        most = omega (arith, g.counts, b.most, length-append g.given (s.held ++ b.read), length-append s.held b.read);
+      }
+
+  -- where nothing is left, no more bytes came than that
+  open_size : (new : Option (List ℕ)) → new ≡ Some [] → IsBounded s g.rest new → length input ≤ max_input + 1
+  open_size new e b =
+      let within = open_within new b in
+      let is : new ≡ Some within.after = within.is_left in
+      let none : within.after ≡ [] = cc in
+      omega (arith, within.most, ap length within.reads, ap length none, length-append within.read within.after)
 
 last_begins : (input : List ℕ) (left : Option (List ℕ)) (ds : List Json) → GivenLast input left ds → Begins input ds
 last_begins input left ds g = ([], at_end, subst (λ (l : List Json). HasDocuments input l at_end) (sym (append-nil ds)) g.all.0)
@@ -58,6 +77,15 @@ given_begins input left s ds g = elim g [ inl o ↦ open_begins input left s ds 
 
 pub input_begins : (input : List ℕ) → Begins input []
 input_begins input = let w = walked (lines_of max_input input) 0 in (w.documents, w.ending, w.walks)
+
+pub nothing_read : (input : List ℕ) (left : Option (List ℕ)) → left ≡ Some input → IsWithinLimit input left
+nothing_read input left e = record { read = []; after = input; is_left = e; reads = refl; most = omega arith }
+
+pub limit_sizes : (input : List ℕ) (left : Option (List ℕ)) → IsWithinLimit input left → (after : List ℕ) → left ≡ Some after → length input ≤ max_input + 1 + length after
+limit_sizes input left w after e =
+    let is : left ≡ Some w.after = w.is_left in
+    let same : w.after ≡ after = cc in
+    omega (arith, w.most, ap length w.reads, ap length same, length-append w.read w.after)
 
 pub given_start : (input : List ℕ) (left : Option (List ℕ)) (s : State) → s ≡ at_start → left ≡ Some input → Given input left s []
 given_start input left s e f = inl (
@@ -107,7 +135,7 @@ module _ (s t : State) (before after : Device) (n : ℕ) (bytes : List ℕ) (c :
         k.kept,
         record {
           all = (open_has input before.bytes s ds g (json ∷ []) at_end step, k.at_end);
-          size = open_within input before.bytes s ds g after.bytes (c.bounded g.rest g.is_left) [] k.at_end;
+          size = open_size input before.bytes s ds g after.bytes k.at_end (c.bounded g.rest g.is_left);
         },
       )
 
@@ -195,11 +223,20 @@ module _ (s t : State) (before after : Device) where
         | inr l ↦ let f : Err reading.ReadFault ≡ Ok next.End = again_end s.kept (Err reading.ReadFault) l.0 c.again in cc
       ]
 
+  last_within : {input : List ℕ} {ds : List Json} → after ≡ before → GivenLast input before.bytes ds → IsWithinLimit input after.bytes
+  last_within {input} {ds} same g = record {
+    read = input;
+    after = [];
+    is_left = ap (λ (d : Device). d.bytes) same ∙ g.all.1;
+    reads = sym (append-nil input);
+    most = g.size;
+  }
+
   pub within_limit : (r : Result Next LineFault) (input : List ℕ) (ds : List Json) → Call s t before after r → Given input before.bytes s ds → IsWithinLimit input after.bytes
   within_limit r input ds c g =
       elim g [
         | inl o ↦ open_within input before.bytes s ds o.1 after.bytes (c.bounded o.1.rest o.1.is_left)
-        | inr l ↦ λ more e. omega (arith, l.1.size)
+        | inr l ↦ last_within (c.untouched (not_open s.kept l.0)) l.1
       ]
 
   -- where no fault was found before, the count rises exactly at a failed read

@@ -50,6 +50,10 @@ abbrev pub Counts : {A : Type 0} → Device → Device → Result A InputFault �
 Counts before after (Ok found) = IsCalm before after
 Counts before after (Err fault) = Faulted before after fault
 
--- at most one byte more was taken of the input than count
-abbrev pub IsWithinLimit : List ℕ → Option (List ℕ) → Type 0
-IsWithinLimit input left = (after : List ℕ) → left ≡ Some after → length input ≤ max_input + 1 + length after
+-- what was read of the input is at most one byte more than counts
+pub record IsWithinLimit (input : List ℕ) (left : Option (List ℕ)) : Type 0 where
+  pub read : List ℕ
+  pub after : List ℕ
+  pub is_left : left ≡ Some after
+  pub reads : input ≡ read ++ after
+  pub most : length read ≤ max_input + 1

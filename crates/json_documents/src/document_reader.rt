@@ -91,7 +91,8 @@ fn next_of<S: Source>(
 
 // The next line, with all that is known of the call.
 fn next_line<S: Source>(lines: &mut Lines, source: &mut S) -> Result<Next, LineFault>
-    ensures { Call lines.old lines.new (S.seen source.old) (S.seen source.new) result }
+    ensures call { Call lines.old lines.new (S.seen source.old) (S.seen source.new) result }
+    ensures bounded { (input : List ℕ) (documents : List Json) → Given input (S.seen source.old).bytes lines.old documents → IsWithinLimit input (S.seen source.new).bytes }
 {
     lines.next(source)
 }

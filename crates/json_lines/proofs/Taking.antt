@@ -4,7 +4,7 @@ use Rattle.std.specs.Prelude.{Contains}
 use Rattle.std.specs.Io.KnownBytes.{Consumes, IsAtEnd, Keeps}
 use Rattle.outside.specs.Devices.{Device}
 use Rattle.json_lines.specs.Cut.{lines_of, first_line, found_long, found_over, is_blank}
-use Rattle.json_lines.specs.Next.{State, found, is_decided}
+use Rattle.json_lines.specs.Next.{Kept, long, over, failed, kept_next, State, found, is_decided}
 use Rattle.json_lines.specs.Front.{IsLine, IsLong, IsOpen, GivesLine, ComesLast, Fills}
 use Rattle.json_lines.specs.Takings.{AreWhole, Passed, PassedFrom, Took, IsBounded, Comes, Arrives}
 use Rattle.json_lines.specs.declared.answer.Next.{Next}
@@ -76,11 +76,11 @@ took_after s t u xs ys zs n bytes kept f g = record {
 -- ---- with the source's bytes
 
 pub from_start : (s : State) (rest : List ℕ) (left : Option (List ℕ)) → left ≡ Some rest → PassedFrom s rest s left
-from_start s rest left e = record { after = rest; is_left = e; passed = passed_nothing s s (s.held ++ rest) (s.held ++ rest) refl refl refl }
+from_start s rest left e = record { read = []; after = rest; is_left = e; reads = refl; passed = passed_nothing s s (s.held ++ rest) (s.held ++ rest) refl refl refl }
 
 pub from_blank : (s t u : State) (rest : List ℕ) (left : Option (List ℕ)) → PassedFrom s rest t left → Passed t t.held u u.held → PassedFrom s rest u left
 from_blank s t u rest left f g =
-    record { after = f.after; is_left = f.is_left; passed = passed_then s t u (s.held ++ rest) (t.held ++ f.after) (u.held ++ f.after) f.passed (passed_with t u t.held u.held f.after g) }
+    record { read = f.read; after = f.after; is_left = f.is_left; reads = f.reads; passed = passed_then s t u (s.held ++ rest) (t.held ++ f.after) (u.held ++ f.after) f.passed (passed_with t u t.held u.held f.after g) }
 
 -- what a read took of known bytes
 read_of : (left new : Option (List ℕ)) (bytes after : List ℕ) → left ≡ Some after → Consumes left new bytes → (rest : List ℕ) × (new ≡ Some rest) × (after ≡ bytes ++ rest)
@@ -96,16 +96,18 @@ kept_of (Some xs) (Some ys) after e k = ap Some k ∙ e
 pub from_read : (s t u : State) (rest bytes : List ℕ) (left new : Option (List ℕ)) → PassedFrom s rest t left → u.number ≡ t.number → u.room ≡ t.room → u.held ≡ t.held ++ bytes → Consumes left new bytes
     → PassedFrom s rest u new
 from_read s t u rest bytes left new f n r h c =
-    let read = read_of left new bytes f.after f.is_left c in
-    let same : t.held ++ f.after ≡ u.held ++ read.0 = ap (λ (l : List ℕ). t.held ++ l) read.2 ∙ sym (append_assoc t.held bytes read.0) ∙ ap (λ (l : List ℕ). l ++ read.0) (sym h) in
+    let now = read_of left new bytes f.after f.is_left c in
+    let same : t.held ++ f.after ≡ u.held ++ now.0 = ap (λ (l : List ℕ). t.held ++ l) now.2 ∙ sym (append_assoc t.held bytes now.0) ∙ ap (λ (l : List ℕ). l ++ now.0) (sym h) in
     record {
-      after = read.0;
-      is_left = read.1;
-      passed = passed_then s t u (s.held ++ rest) (t.held ++ f.after) (u.held ++ read.0) f.passed (passed_nothing t u (t.held ++ f.after) (u.held ++ read.0) n r same);
+      read = f.read ++ bytes;
+      after = now.0;
+      is_left = now.1;
+      reads = f.reads ∙ ap (λ (l : List ℕ). f.read ++ l) now.2 ∙ sym (append_assoc f.read bytes now.0);
+      passed = passed_then s t u (s.held ++ rest) (t.held ++ f.after) (u.held ++ now.0) f.passed (passed_nothing t u (t.held ++ f.after) (u.held ++ now.0) n r same);
     }
 
 pub from_failed : (s t : State) (rest : List ℕ) (left new : Option (List ℕ)) → PassedFrom s rest t left → Keeps left new → PassedFrom s rest t new
-from_failed s t rest left new f k = record { after = f.after; is_left = kept_of left new f.after f.is_left k; passed = f.passed }
+from_failed s t rest left new f k = record { read = f.read; after = f.after; is_left = kept_of left new f.after f.is_left k; reads = f.reads; passed = f.passed }
 
 pub from_found : (s t : State) (rest : List ℕ) (left : Option (List ℕ)) (f : PassedFrom s rest t left) → found t f.after ≡ found s rest
 from_found s t rest left f = passed_found s t (s.held ++ rest) (t.held ++ f.after) f.passed
@@ -117,11 +119,19 @@ at_end_is (Some xs) after e h = ap Some h
 -- ---- how many bytes were taken
 
 pub from_bounded : (s t : State) (rest : List ℕ) (left : Option (List ℕ)) → PassedFrom s rest t left → length t.held ≤ t.room + 1 → IsBounded s rest left
-from_bounded s t rest left f within after e =
-    let is : left ≡ Some f.after = f.is_left in
-    let same : f.after ≡ after = cc in
+from_bounded s t rest left f within =
     let sizes = ap length f.passed.splits in
-    omega (arith, within, f.passed.counts, sizes, ap length same, length-append s.held rest, length-append f.passed.taken (t.held ++ f.after), length-append t.held f.after)
+    record {
+      read = f.read;
+      after = f.after;
+      is_left = f.is_left;
+      reads = f.reads;
+      most = omega (arith, within, f.passed.counts, sizes, ap length f.reads, length-append f.read f.after, length-append s.held rest, length-append f.passed.taken (t.held ++ f.after), length-append t.held f.after);
+    }
+
+-- nothing was read
+pub bounded_unread : (s : State) (rest : List ℕ) (left : Option (List ℕ)) → left ≡ Some rest → length s.held ≤ s.room + 1 → IsBounded s rest left
+bounded_unread s rest left e within = record { read = []; after = rest; is_left = e; reads = refl; most = omega (arith, within) }
 
 -- ---- the answers
 
@@ -190,3 +200,31 @@ arrives_failed s t u rest before after fault.InputTooLong f within is g = absurd
 arrives_failed s t u rest before after fault.NoMemory f within is g =
     let left = subst (λ (d : Device). PassedFrom s rest t d.bytes) (sym g.1) f in
     record { comes = arrives_same s t u rest after.bytes g.0 left; bounded = from_bounded s t rest after.bytes left within }
+
+-- ---- an answer is kept
+
+passed_kept : (s t : State) (kept : Kept) (rest : List ℕ) (left : Option (List ℕ)) → PassedFrom s rest t left → PassedFrom s rest (record { number = t.number; room = t.room; held = t.held; kept = kept }) left
+passed_kept s t kept rest left f = record {
+  read = f.read;
+  after = f.after;
+  is_left = f.is_left;
+  reads = f.reads;
+  passed = record { taken = f.passed.taken; splits = f.passed.splits; counts = f.passed.counts; whole = f.passed.whole; alike = f.passed.alike };
+}
+
+pub comes_kept : (s t : State) (rest : List ℕ) (left : Option (List ℕ)) (r : Result Next LineFault) → Comes s rest t left r → Comes s rest (record { number = t.number; room = t.room; held = t.held; kept = kept_next r t.kept }) left r
+comes_kept s t rest left (Ok (next.Line n bytes)) c =
+    elim c [
+      | inl f ↦
+          inl (record {
+            after = f.after;
+            is_left = f.is_left;
+            took = record { taken = f.took.taken; splits = f.took.splits; counts = f.took.counts; whole = f.took.whole; gives = f.took.gives; number = f.took.number; kept = f.took.kept };
+          })
+      | inr f ↦ inr (record { gives = f.gives; at_end = f.at_end; number = f.number; held = f.held; kept = f.kept })
+    ]
+comes_kept s t rest left (Ok (next.TooLong n)) c = (c.0, passed_kept s t (long n) rest left c.1)
+comes_kept s t rest left (Ok next.End) c = c
+comes_kept s t rest left (Err fault.InputTooLong) c = (c.0, passed_kept s t over rest left c.1)
+comes_kept s t rest left (Err fault.ReadFault) c = (c.0, c.1, passed_kept s t failed rest left c.2)
+comes_kept s t rest left (Err fault.NoMemory) c = passed_kept s t t.kept rest left c

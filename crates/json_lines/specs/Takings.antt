@@ -23,8 +23,10 @@ pub record Passed (s : State) (ahead : List ℕ) (t : State) (after : List ℕ) 
 
 -- the same with the source's bytes: `rest` was left, and `left` is
 pub record PassedFrom (s : State) (rest : List ℕ) (t : State) (left : Option (List ℕ)) : Type 0 where
+  pub read : List ℕ
   pub after : List ℕ
   pub is_left : left ≡ Some after
+  pub reads : rest ≡ read ++ after
   pub passed : Passed s (s.held ++ rest) t (t.held ++ after)
 
 -- blank lines and a line that isn't blank were taken, with their LFs
@@ -60,9 +62,13 @@ Comes s rest t left (Err fault.InputTooLong) = (found s rest ≡ found_over) × 
 Comes s rest t left (Err fault.ReadFault) = (Contains t.held 10 → ⊥) × (is_decided (lines_of t.room t.held) ≡ false) × PassedFrom s rest t left
 Comes s rest t left (Err fault.NoMemory) = PassedFrom s rest t left
 
--- what was taken of the source, with what was held, is at most one byte more than still counts
-abbrev pub IsBounded : State → List ℕ → Option (List ℕ) → Type 0
-IsBounded s rest left = (after : List ℕ) → left ≡ Some after → length s.held + length rest ≤ s.room + 1 + length after
+-- what was read of the source, with what was held, is at most one byte more than still counts
+pub record IsBounded (s : State) (rest : List ℕ) (left : Option (List ℕ)) : Type 0 where
+  pub read : List ℕ
+  pub after : List ℕ
+  pub is_left : left ≡ Some after
+  pub reads : rest ≡ read ++ after
+  pub most : length s.held + length read ≤ s.room + 1
 
 -- both, for an answer that isn't yet kept
 pub record Arrives (s : State) (rest : List ℕ) (t : State) (left : Option (List ℕ)) (answer : Result Next LineFault) : Type 0 where

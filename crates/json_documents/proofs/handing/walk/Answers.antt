@@ -51,3 +51,12 @@ returns-in-Ok-None-clause-hands g c =
       record { documents = so_far.documents; took = so_far.took; known = λ input e. gives input so_far.documents (so_far.known input e) },
       one.ensures.counts ∙ c.loop-document.invariant.calm,
     )
+
+pub returns-in-Err-pass_on-clause-bounded : goal.returns-in-Err-pass_on-clause-bounded
+returns-in-Err-pass_on-clause-bounded g c = λ input e. c.in-Ok-Some.ensures.bounded input c.loop-document.invariant.took.documents (c.loop-document.invariant.took.known input e)
+
+pub returns-in-Ok-None-clause-bounded : goal.returns-in-Ok-None-clause-bounded
+returns-in-Ok-None-clause-bounded g c = λ input e. c.in-Ok-None.ensures.bounded input c.loop-document.invariant.took.documents (c.loop-document.invariant.took.known input e)
+
+pub returns-in-Err-clause-bounded : goal.returns-in-Err-clause-bounded
+returns-in-Err-clause-bounded g c = λ input e. c.in-Err.ensures.bounded input c.loop-document.invariant.took.documents (c.loop-document.invariant.took.known input e)

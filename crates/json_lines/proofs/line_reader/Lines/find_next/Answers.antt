@@ -24,9 +24,9 @@ returns-in-Ok-eq0-clause-arrives g c = λ rest e.
     let b = c.in-Open.ensures.passes in
     let f = c.in-Ok-eq0.ensures.fills in
     let gains = f.gains in
-    let p = from_read _ _ _ rest gains.bytes _ _ (from_blank _ _ _ rest _ (c.loop-at.invariant.passed rest e) b.passed) f.number f.room gains.grown gains.taken in
     let size = ap length gains.grown in
     let within : length c.fill.new.self.held ≤ c.fill.new.self.room + 1 = omega (arith, b.within, f.room, size, gains.size, c.in-Ok-eq0.field-0-test, length-append c.pass_blank.new.self.held gains.bytes) in
+    let p = from_read _ _ _ rest gains.bytes _ _ (from_blank _ _ _ rest _ (c.loop-at.invariant.passed rest e) b.passed) f.number f.room gains.grown gains.taken in
     arrives_last _ _ _ rest _ c.last.result p within (gains.end c.in-Ok-eq0.field-0-test) c.last.ensures
 
 pub returns-in-Err-clause-arrives : goal.returns-in-Err-clause-arrives
