@@ -1,5 +1,6 @@
 -- The number at the front of a text: all leading bytes of which number texts consist.
-use Rattle.std.specs.Prelude.{◌≡◌, ℕ, Bool, true, not, cond, List, [], ◌∷◌, ◌++◌, Ok}
+use Rattle.std.specs.Prelude.{◌≡◌, ℕ, Bool, true, not, List, [], ◌∷◌, ◌++◌, Ok}
+use Rattle.byte_parsing.specs.Parse.{front, back}
 use Rattle.exact_num.specs.Decimal.{Decimal}
 use Rattle.exact_num.specs.Parsing.{is_numeric}
 use Rattle.exact_num.specs.Reading.{read_of}
@@ -7,12 +8,10 @@ use Rattle.exact_num.specs.Spelling.{sign_text}
 
 -- the leading bytes of which number texts consist, and the bytes after them
 abbrev pub number_run : List ℕ → List ℕ
-number_run [] = []
-number_run (x ∷ xs) = cond (is_numeric x) (x ∷ number_run xs) []
+number_run xs = front is_numeric xs
 
 abbrev pub after_number : List ℕ → List ℕ
-after_number [] = []
-after_number (x ∷ xs) = cond (is_numeric x) (after_number xs) (x ∷ xs)
+after_number xs = back is_numeric xs
 
 -- no byte of a number leads
 abbrev pub is_ended : List ℕ → Bool

@@ -1,40 +1,20 @@
 -- The parts of a number text, as a function of the text.
-use Rattle.std.specs.Prelude.{◌==◌, ◌&&◌, ◌||◌, nat_le, ℕ, Bool, true, false, cond, List, [], ◌∷◌, Option, Some, None, option_map}
+use Rattle.std.specs.Prelude.{◌==◌, ◌||◌, ℕ, Bool, true, false, cond, List, [], ◌∷◌, Option, Some, None, option_map}
 use Rattle.std.specs.List.{list_all}
+use Rattle.byte_parsing.specs.Parse as bytes
+pub use Rattle.byte_parsing.specs.Parse.{past}
+pub use Rattle.byte_parsing.specs.Words.{is_digit, is_empty, is_numeric, is_whole}
 use Rattle.exact_num.specs.Spelling.{Sign, unmarked, plus, minus, Exponent, no_exponent, exponent, Written}
 
 -- The stages of the text are taken in turn. Each is named for what it is given: a Bool for the sign,
 -- the digits in front of the point, those behind it, and the rest of the text.
 
-abbrev pub is_digit : ℕ → Bool
-is_digit x = nat_le 48 x && nat_le x 57
-
--- the bytes that number texts are made of: 0-9 + - . e E
-abbrev pub is_numeric : ℕ → Bool
-is_numeric x = is_digit x || (x == 43 || (x == 45 || (x == 46 || (x == 69 || x == 101))))
-
-abbrev pub is_empty : List ℕ → Bool
-is_empty [] = true
-is_empty (x ∷ xs) = false
-
--- the digits in front, and what is behind them
+-- the digits that stand first, and what comes after them
 abbrev pub front : List ℕ → List ℕ
-front [] = []
-front (x ∷ xs) = cond (is_digit x) (x ∷ front xs) []
+front xs = bytes.front is_digit xs
 
 abbrev pub back : List ℕ → List ℕ
-back [] = []
-back (x ∷ xs) = cond (is_digit x) (back xs) (x ∷ xs)
-
--- what is behind a byte, if the text begins with it
-abbrev pub past : ℕ → List ℕ → Option (List ℕ)
-past b [] = None
-past b (x ∷ xs) = cond (x == b) (Some xs) None
-
--- of digits: they are 0, or don't begin with 0
-abbrev pub is_whole : List ℕ → Bool
-is_whole [] = false
-is_whole (x ∷ xs) = cond (x == 48) (is_empty xs) true
+back xs = bytes.back is_digit xs
 
 -- digits to the end of the text
 unfoldable pub power_digits : ℕ → Sign → List ℕ → Option Exponent

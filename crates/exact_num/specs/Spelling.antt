@@ -1,6 +1,7 @@
 -- JSON numbers as their parts, and the number that the parts mean (RFC 8259, section 6).
-use Rattle.std.specs.Prelude.{◌≡◌, ◌⊎◌, ℕ, ◌+◌, ◌-◌, ◌*◌, ◌^◌, ◌≤◌, Bool, true, false, cond, List, [], ◌∷◌, ◌++◌, length}
+use Rattle.std.specs.Prelude.{◌≡◌, ◌⊎◌, ℕ, ◌+◌, ◌-◌, ◌*◌, ◌^◌, Bool, true, false, cond, List, [], ◌∷◌, ◌++◌, length}
 use Rattle.std.specs.List.{AllByRecursion}
+pub use Rattle.byte_parsing.specs.Words.{IsDigit, IsWhole}
 use Rattle.exact_num.specs.Decimal.{Decimal, signed}
 
 -- the sign of an exponent may be left out
@@ -44,18 +45,10 @@ spelled w = sign_text w.negative ++ (w.whole ++ (fraction_text w.fraction ++ exp
 
 -- What the grammar asks of the parts.
 
-abbrev pub IsDigit : ℕ → Type 0
-IsDigit x = (48 ≤ x) × (x ≤ 57)
-
 -- one digit or more
 abbrev pub AreDigits : List ℕ → Type 0
 AreDigits [] = ⊥
 AreDigits (x ∷ xs) = IsDigit x × AllByRecursion IsDigit xs
-
--- 0, or digits of which the first isn't 0
-abbrev pub IsWhole : List ℕ → Type 0
-IsWhole [] = ⊥
-IsWhole (x ∷ xs) = ((x ≡ 48) × (xs ≡ [])) ⊎ ((49 ≤ x) × (x ≤ 57) × AllByRecursion IsDigit xs)
 
 abbrev pub IsExponent : Exponent → Type 0
 IsExponent no_exponent = Unit {0}

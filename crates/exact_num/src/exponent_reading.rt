@@ -6,8 +6,8 @@ ghost use Rattle.exact_num.specs.Parsing.{is_digit, power_of, power_signed, powe
 ghost use Rattle.exact_num.specs.Spelling.{Sign, is_minus, digits_value};
 ghost use Rattle.exact_num.specs.Wide.{IsCutOption};
 
-use crate::digit_runs::after_byte;
 use crate::exponent::CutExponent;
+use byte_parsing::after_byte;
 
 /// The exponent that the text is, or the exponent 0 where it is empty.
 #[tactic(auto, unfolding(crate::specs::Parsing::power_of))]

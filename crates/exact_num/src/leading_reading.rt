@@ -10,10 +10,10 @@ ghost use Rattle.exact_num.specs.Parsing.{is_digit, is_numeric, is_whole};
 ghost use Rattle.exact_num.specs.Reading.{Gives, read_of};
 ghost use Rattle.exact_num.specs.Spelling.{digits_value, sign_text};
 
-use crate::digit_runs::is_whole;
 use crate::fault::NumFault;
 use crate::number::Number;
 use crate::reading::read_number;
+use byte_parsing::{is_numeric, is_whole, split_number};
 
 // So many digits always fit 64 bits.
 const SHORT: usize = 18;
@@ -31,24 +31,6 @@ pub fn read_leading(text: &[u8]) -> (Result<Number, NumFault>, &[u8])
             (read_number(run), rest)
         }
     }
-}
-
-fn split_number(text: &[u8]) -> (&[u8], &[u8])
-    ensures run { result.0.now ≡ number_run text.now }
-    ensures after { result.1.now ≡ after_number text.now }
-{
-    for (i, byte) in text.iter().enumerate() {
-        if !is_numeric(*byte) {
-            return text.split_at(i);
-        }
-    }
-    text.split_at(text.len())
-}
-
-fn is_numeric(byte: u8) -> bool
-    ensures { result ≡ is_numeric byte }
-{
-    byte.is_ascii_digit() || matches!(byte, b'+' | b'-' | b'.' | b'e' | b'E')
 }
 
 // The number, if it is one of at most 18 digits without exponent, and the bytes after it.

@@ -11,7 +11,7 @@
 //! | `reading` | `read_number`: any JSON number text |
 //! | `leading_reading` | `read_leading`: the number at the front of a text |
 //! | `exponent_reading`, `exponent` | the exponent, cut where it is out of reach |
-//! | `digit_runs` | runs of digits and their integers |
+//! | `digit_runs` | the integers of digits |
 //! | `significand` | digits of any count, without the zeros at their end |
 //! | `placing` | where the point of the digits goes |
 //! | `printing` | `print` |

@@ -8,13 +8,14 @@ ghost use Rattle.exact_num.specs.Reading.{Gives, IsRead, IsFault, number_of, rea
 ghost use Rattle.exact_num.specs.Spelling.{Exponent, IsDigit, digits_value};
 ghost use Rattle.exact_num.specs.Wide.{IsCut, IsWide};
 
-use crate::digit_runs::{after_byte, digits, is_whole, small_value, wide_value};
+use crate::digit_runs::{small_value, wide_value};
 use crate::exponent::CutExponent;
 use crate::exponent_reading::exponent;
 use crate::fault::NumFault;
 use crate::number::Number;
 use crate::placing::placed;
 use crate::significand::Significand;
+use byte_parsing::{after_byte, is_whole, split_digits};
 
 /// The number that `text` spells, whatever its length and its exponent: nothing is rounded.
 ///
@@ -42,7 +43,7 @@ fn read_signed(text: &[u8]) -> Result<Number, NumFault>
 fn read_unsigned(minus: bool, text: &[u8]) -> Result<Number, NumFault>
     ensures { Gives decimal_of result (read_from (unsigned minus text.now)) }
 {
-    let (whole, rest) = digits(text);
+    let (whole, rest) = split_digits(text);
     if !is_whole(whole) {
         return Err(NumFault::NotNumber);
     }
@@ -57,7 +58,7 @@ fn read_fraction(minus: bool, whole: &[u8], text: &[u8]) -> Result<Number, NumFa
     requires { All IsDigit whole.now }
     ensures { Gives decimal_of result (read_from (pointed minus whole.now text.now)) }
 {
-    let (fraction, rest) = digits(text);
+    let (fraction, rest) = split_digits(text);
     if fraction.is_empty() {
         return Err(NumFault::NotNumber);
     }
