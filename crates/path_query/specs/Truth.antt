@@ -6,7 +6,7 @@ use Rattle.std.specs.declared.cmp.Ordering.{Ordering}
 use Rattle.std.specs.Cmp.Lexicographic.{slice_cmp}
 use Rattle.std.specs.List.{list_any}
 use Rattle.exact_num.specs.Decimal.{Decimal, order}
-use Rattle.json_tree.specs.Json.{Json, null, boolean, number, text, array, object}
+use Rattle.json_tree.specs.Json.{Json, null, boolean, number, text}
 use Rattle.query_tree.specs.Formula.{Claim, exists, missing, stands, Formula, term, conjunction, disjunction, negation}
 use Rattle.query_tree.specs.declared.filter.Relation.{Relation}
 use Rattle.query_tree.specs.declared.filter.Relation.TheVariants.{Equal, NotEqual, Less, AtMost, Greater, AtLeast}
@@ -34,37 +34,21 @@ is_same AtLeast same = false
 
 abbrev pub stands_to_null : Relation → Json → Bool
 stands_to_null relation null = is_same relation true
-stands_to_null relation (boolean b) = false
-stands_to_null relation (number d) = false
-stands_to_null relation (text s) = false
-stands_to_null relation (array ps) = false
-stands_to_null relation (object fs) = false
+stands_to_null relation _ = false
 
 abbrev pub stands_to_truth : Relation → Bool → Json → Bool
-stands_to_truth relation a null = false
 stands_to_truth relation a (boolean b) = is_same relation (beq b a)
-stands_to_truth relation a (number d) = false
-stands_to_truth relation a (text s) = false
-stands_to_truth relation a (array ps) = false
-stands_to_truth relation a (object fs) = false
+stands_to_truth relation a _ = false
 
 -- numbers by value
 abbrev pub stands_to_number : Relation → Decimal → Json → Bool
-stands_to_number relation a null = false
-stands_to_number relation a (boolean b) = false
 stands_to_number relation a (number d) = is_ordered relation (order d a)
-stands_to_number relation a (text s) = false
-stands_to_number relation a (array ps) = false
-stands_to_number relation a (object fs) = false
+stands_to_number relation a _ = false
 
 -- texts by their bytes, one by one from the first
 abbrev pub stands_to_text : Relation → List ℕ → Json → Bool
-stands_to_text relation a null = false
-stands_to_text relation a (boolean b) = false
-stands_to_text relation a (number d) = false
 stands_to_text relation a (text s) = is_ordered relation (slice_cmp nat_cmp s a)
-stands_to_text relation a (array ps) = false
-stands_to_text relation a (object fs) = false
+stands_to_text relation a _ = false
 
 -- whether a match stands in the relation to a literal, which is no array and no object
 abbrev pub stands_to : Relation → Json → Json → Bool
@@ -72,8 +56,7 @@ stands_to relation null found = stands_to_null relation found
 stands_to relation (boolean a) found = stands_to_truth relation a found
 stands_to relation (number a) found = stands_to_number relation a found
 stands_to relation (text a) found = stands_to_text relation a found
-stands_to relation (array ps) found = false
-stands_to relation (object fs) found = false
+stands_to relation _ found = false
 
 abbrev pub is_some_match : List Json → Bool
 is_some_match [] = false
