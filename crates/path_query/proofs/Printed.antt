@@ -13,7 +13,7 @@ use Rattle.query_tree.specs.declared.path.Path.{Path}
 use Rattle.query_tree.specs.declared.step.Step.{Step}
 use Rattle.path_query.specs.Answer.{with_member, value_text, members, after_commas, list_text, line_of}
 use Rattle.path_query.specs.Matches.{matches, at}
-use Rattle.path_query.specs.Members.{member_text}
+use Rattle.path_query.specs.Members.{after_comma}
 
 -- what is appended to is a front
 pub starts_again : (new now old : List ℕ) → StartsWith new now → StartsWith now old → StartsWith new old
@@ -42,21 +42,21 @@ matches_turn now new all steps ts i t lt e before done =
     ∙ ap (λ (xs : List Tree). now ++ more_parts (parts_of (flat_map (matches steps) (map view xs)))) (sym more)
     ∙ before
 
-member_first : (steps : List Step) (text : Option (List ℕ)) (others : List (List ℕ)) → after_commas (with_member steps text others) ≡ member_text steps text ++ after_commas others
+member_first : (steps : List Step) (text : Option (List ℕ)) (others : List (List ℕ)) → after_commas (with_member steps text others) ≡ after_comma steps text ++ after_commas others
 member_first steps None others = refl
 member_first steps (Some text) others = simp append_assoc
 
 -- the member of one path is printed, and those of the paths after it are ahead
 pub members_turn : (now new all : List ℕ) (paths : List Path) (row : Option Json) (i : ℕ) (path : Path) → i < length paths → path ≡ get_or paths i path
     → now ++ after_commas (members (map steps_of (drop i paths)) row) ≡ all
-    → new ≡ now ++ member_text (steps_of path) (value_text (steps_of path) (at (steps_of path) row))
+    → new ≡ now ++ after_comma (steps_of path) (value_text (steps_of path) (at (steps_of path) row))
     → new ++ after_commas (members (map steps_of (drop (i + 1) paths)) row) ≡ all
 members_turn now new all paths row i path lt e before done =
     let here : Option (List ℕ) = value_text (steps_of path) (at (steps_of path) row) in
     let after : List (List ℕ) = members (map steps_of (drop (i + 1) paths)) row in
     let more : drop i paths ≡ path ∷ drop (i + 1) paths = drop_more paths i path lt ∙ ap (λ (x : Path). x ∷ drop (i + 1) paths) (sym e) in
     ap (λ (s : List ℕ). s ++ after_commas after) done
-    ∙ append_assoc now (member_text (steps_of path) here) (after_commas after)
+    ∙ append_assoc now (after_comma (steps_of path) here) (after_commas after)
     ∙ ap (λ (s : List ℕ). now ++ s) (sym (member_first (steps_of path) here after))
     ∙ ap (λ (xs : List Path). now ++ after_commas (members (map steps_of xs) row)) (sym more)
     ∙ before

@@ -1,12 +1,11 @@
 -- A path without a star has one match at most.
 use Rattle.std.proofs.Common.{◌≡◌, ◌≤◌, List, [], ◌∷◌, Option, Some, None, false, length, subst, sym, arith, append-nil}
 use Rattle.std.specs.List.{flat_map}
-use Rattle.std.specs.Prelude.{slice_get}
 use Rattle.json_tree.specs.Json.{Json}
 use Rattle.query_tree.specs.PathText.{has_star}
 use Rattle.query_tree.specs.declared.step.Step.{Step}
 use Rattle.query_tree.specs.declared.step.Step.TheVariants.{Field, Index, Star}
-use Rattle.path_query.specs.Matches.{field_of, all_of, list_of, matches, at}
+use Rattle.path_query.specs.Matches.{member, element_at, list_of, matches, at}
 
 in_one : (steps : List Step) (found : Option Json) → ((json : Json) → length (matches steps json) ≤ 1) → length (flat_map (matches steps) (list_of found)) ≤ 1
 in_one steps None each = omega arith
@@ -14,8 +13,8 @@ in_one steps (Some json) each = subst (λ (js : List Json). length js ≤ 1) (sy
 
 in_value : (steps : List Step) (json : Json) → has_star steps ≡ false → length (matches steps json) ≤ 1
 in_value [] json e = omega arith
-in_value (Field name ∷ steps) json e = in_one steps (field_of name json) (λ j. in_value steps j e)
-in_value (Index n ∷ steps) json e = in_one steps (slice_get (all_of json) n) (λ j. in_value steps j e)
+in_value (Field name ∷ steps) json e = in_one steps (member name json) (λ j. in_value steps j e)
+in_value (Index n ∷ steps) json e = in_one steps (element_at n json) (λ j. in_value steps j e)
 in_value (Star ∷ steps) json e = cc
 
 pub match_once : (steps : List Step) (row : Option Json) → has_star steps ≡ false → length (at steps row) ≤ 1

@@ -19,10 +19,14 @@ first_text (json ∷ more) = Some (text_of json)
 abbrev pub value_text : List Step → List Json → Option (List ℕ)
 value_text steps found = if has_star steps then Some (text_of (array (parts_of found))) else first_text found
 
--- a member of a printed line, before others
+-- a member of a printed line: the path's text as its name, and what it has to show
+abbrev pub member_text : List Step → List ℕ → List ℕ
+member_text steps text = quoted (path_text steps) ++ colon ∷ text
+
+-- with that member, if there is one, before others
 abbrev pub with_member : List Step → Option (List ℕ) → List (List ℕ) → List (List ℕ)
 with_member steps None others = others
-with_member steps (Some text) others = (quoted (path_text steps) ++ colon ∷ text) ∷ others
+with_member steps (Some text) others = member_text steps text ∷ others
 
 -- the members of a printed line: of each path that has something to show, in the order of the paths
 abbrev pub members : List (List Step) → Option Json → List (List ℕ)
@@ -49,10 +53,10 @@ passes None row = true
 passes (Some formula) row = holds formula row
 
 -- what is printed for a row: its line, or nothing
-unfoldable pub output_of : Asked → Option Json → List ℕ
-output_of asked row = if passes asked.filter row then line_of asked.paths row else []
+unfoldable pub row_text : Asked → Option Json → List ℕ
+row_text asked row = if passes asked.filter row then line_of asked.paths row else []
 
 -- the lines of the rows on which the filter holds, in order
 abbrev pub answer_of : Asked → List (Option Json) → List ℕ
 answer_of asked [] = []
-answer_of asked (row ∷ rows) = output_of asked row ++ answer_of asked rows
+answer_of asked (row ∷ rows) = row_text asked row ++ answer_of asked rows

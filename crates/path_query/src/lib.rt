@@ -1,7 +1,8 @@
 //! Path queries over JSON values: paths and filters of texts, the matches of a path, the truth of a
 //! filter, and the printed line.
 //!
-//! A row is a JSON value, or absent; an absent row has no match. Nothing but an answer takes memory.
+//! A row is a JSON value, or absent; an absent row has no match. What a text is read to takes memory, and
+//! so do a list of matches and a printed line; `holds` takes none.
 //!
 //! | Module | What it holds |
 //! |---|---|

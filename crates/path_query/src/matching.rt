@@ -6,7 +6,7 @@ ghost use Rattle.query_tree.specs.View.{steps_of};
 ghost use Rattle.path_query.specs.Matches.{matches, at};
 ghost use Rattle.path_query.specs.Rows.{row_of, found_of};
 
-use crate::taking::taken;
+use crate::taking::parts_at;
 use json_tree::Tree;
 use query_tree::{Path, Step};
 use std::alloc::Global;
@@ -19,7 +19,7 @@ fn collect<'t>(steps: &[Step], tree: &'t Tree, into: &mut Vec<&'t Tree>) -> Resu
     match steps.split_first() {
         None => into.push(tree)?,
         Some((step, others)) => {
-            for part in taken(step, tree) {
+            for part in parts_at(step, tree) {
                 collect(others, part, into)?;
             }
         }

@@ -12,12 +12,12 @@ ghost use Rattle.json_tree.specs.View.{view};
 ghost use Rattle.query_tree.specs.Asked.{query_of};
 ghost use Rattle.query_tree.specs.PathText.{path_text, has_star};
 ghost use Rattle.query_tree.specs.View.{steps_of};
-ghost use Rattle.path_query.specs.Answer.{value_text, members, after_commas, line_of, output_of};
+ghost use Rattle.path_query.specs.Answer.{value_text, members, after_commas, line_of, row_text};
 ghost use Rattle.path_query.specs.Matches.{list_of, matches, at};
-ghost use Rattle.path_query.specs.Members.{member_text};
+ghost use Rattle.path_query.specs.Members.{after_comma};
 ghost use Rattle.path_query.specs.Rows.{row_of};
 
-use crate::taking::taken;
+use crate::taking::parts_at;
 use crate::truth::holds;
 use json_tree::{Tree, print};
 use query_tree::{Path, Query, Step};
@@ -30,7 +30,7 @@ fn only<'t>(steps: &[Step], row: Option<&'t Tree>) -> Option<&'t Tree>
 {
     let mut here = row?;
     for step in steps {
-        here = taken(step, here).first()?;
+        here = parts_at(step, here).first()?;
     }
     Some(here)
 }
@@ -46,7 +46,7 @@ fn put_matches(into: &mut Vec<u8>, steps: &[Step], tree: &Tree) -> Result<(), No
             print(into, tree)?;
         }
         Some((step, others)) => {
-            for part in taken(step, tree) {
+            for part in parts_at(step, tree) {
                 put_matches(into, others, part)?;
             }
         }
@@ -101,7 +101,7 @@ fn put_name(into: &mut Vec<u8>, path: &Path) -> Result<(), NoMemory>
 }
 
 fn put_member(into: &mut Vec<u8>, path: &Path, row: Option<&Tree>) -> Result<(), NoMemory>
-    ensures ok { OnOk result (into.new.items ≡ into.old.items ++ member_text (steps_of path.now) (value_text (steps_of path.now) (at (steps_of path.now) (row_of row.entry)))) }
+    ensures ok { OnOk result (into.new.items ≡ into.old.items ++ after_comma (steps_of path.now) (value_text (steps_of path.now) (at (steps_of path.now) (row_of row.entry)))) }
     ensures grows { StartsWith into.new.items into.old.items }
 {
     let steps = path.as_slice();
@@ -152,9 +152,9 @@ pub fn line(into: &mut Vec<u8>, query: &Query, row: Option<&Tree>) -> Result<(),
 
 /// Appends the line of a row on which the filter holds, and nothing for any other. After an `Err`
 /// `into` is as before.
-#[tactic(auto, unfolding(crate::specs::Answer::output_of))]
+#[tactic(auto, unfolding(crate::specs::Answer::row_text))]
 pub fn print_row(into: &mut Vec<u8>, query: &Query, row: Option<&Tree>) -> Result<(), NoMemory>
-    ensures ok { OnOk result (into.new.items ≡ into.old.items ++ output_of (query_of query.now) (row_of row.entry)) }
+    ensures ok { OnOk result (into.new.items ≡ into.old.items ++ row_text (query_of query.now) (row_of row.entry)) }
     ensures err { OnErr result (into.new.items ≡ into.old.items) }
 {
     let passes = match &query.filter {

@@ -1,15 +1,15 @@
 //! The parts of a value that one step of a path keeps.
 
-ghost use Rattle.std.specs.Prelude.{◌≡◌, map, option_map, slice_get};
+ghost use Rattle.std.specs.Prelude.{◌≡◌, map, option_map};
 ghost use Rattle.json_tree.specs.View.{view};
-ghost use Rattle.path_query.specs.Matches.{field_of, all_of, list_of, parts_at};
+ghost use Rattle.path_query.specs.Matches.{member, elements, element_at, list_of, parts_at};
 
 use json_tree::Tree;
 use query_tree::Step;
 use std::slice;
 
-fn field<'t>(tree: &'t Tree, name: &str) -> Option<&'t Tree>
-    ensures { option_map (λ found. view found.now) result ≡ field_of name.now (view tree.now) }
+fn member<'t>(tree: &'t Tree, name: &str) -> Option<&'t Tree>
+    ensures { option_map (λ found. view found.now) result ≡ member name.now (view tree.now) }
 {
     match tree {
         Tree::Object(members) => members.get(name),
@@ -17,8 +17,8 @@ fn field<'t>(tree: &'t Tree, name: &str) -> Option<&'t Tree>
     }
 }
 
-fn items<'t>(tree: &'t Tree) -> &'t [Tree]
-    ensures { map view result.now ≡ all_of (view tree.now) }
+fn elements<'t>(tree: &'t Tree) -> &'t [Tree]
+    ensures { map view result.now ≡ elements (view tree.now) }
 {
     match tree {
         Tree::Array(items) => items.as_slice(),
@@ -26,13 +26,13 @@ fn items<'t>(tree: &'t Tree) -> &'t [Tree]
     }
 }
 
-fn item<'t>(tree: &'t Tree, index: u32) -> Option<&'t Tree>
-    ensures { option_map (λ found. view found.now) result ≡ slice_get (all_of (view tree.now)) index }
+fn element_at<'t>(tree: &'t Tree, index: u32) -> Option<&'t Tree>
+    ensures { option_map (λ found. view found.now) result ≡ element_at index (view tree.now) }
 {
-    items(tree).get(index as usize)
+    elements(tree).get(index as usize)
 }
 
-fn listed<'t>(found: Option<&'t Tree>) -> &'t [Tree]
+fn list_of<'t>(found: Option<&'t Tree>) -> &'t [Tree]
     ensures { map view result.now ≡ list_of (option_map (λ found. view found.now) found.entry) }
 {
     match found {
@@ -42,12 +42,12 @@ fn listed<'t>(found: Option<&'t Tree>) -> &'t [Tree]
 }
 
 // The parts of a value that a step keeps, in place and in order.
-pub(crate) fn taken<'t>(step: &Step, tree: &'t Tree) -> &'t [Tree]
+pub(crate) fn parts_at<'t>(step: &Step, tree: &'t Tree) -> &'t [Tree]
     ensures { map view result.now ≡ parts_at step.now (view tree.now) }
 {
     match step {
-        Step::Field(name) => listed(field(tree, name.as_str())),
-        Step::Index(index) => listed(item(tree, *index)),
-        Step::Star => items(tree),
+        Step::Field(name) => list_of(member(tree, name.as_str())),
+        Step::Index(index) => list_of(element_at(tree, *index)),
+        Step::Star => elements(tree),
     }
 }

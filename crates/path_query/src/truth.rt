@@ -9,7 +9,7 @@ ghost use Rattle.path_query.specs.Rows.{row_of};
 ghost use Rattle.path_query.specs.Serves.{serves};
 ghost use Rattle.path_query.specs.Truth.{is_ordered, is_same, stands_to, is_true_of, holds};
 
-use crate::taking::taken;
+use crate::taking::parts_at;
 use json_tree::Tree;
 use query_tree::{Filter, Path, Relation, Step, Test};
 use std::cmp::Ordering;
@@ -78,7 +78,7 @@ fn any_match(steps: &[Step], tree: &Tree, test: &Test) -> bool
     match steps.split_first() {
         None => serves(test, tree),
         Some((step, others)) => {
-            for part in taken(step, tree) {
+            for part in parts_at(step, tree) {
                 if any_match(others, part, test) {
                     return true;
                 }

@@ -10,7 +10,7 @@ use Rattle.json_tree.specs.Json.{Json}
 use Rattle.json_documents.specs.Taking.{Takes}
 use Rattle.query_tree.specs.Asked.{Asked, query_of}
 use Rattle.query_tree.specs.declared.query.Query.{Query}
-use Rattle.path_query.specs.Answer.{output_of as row_text}
+use Rattle.path_query.specs.Answer.{row_text}
 use Rattle.variant_store.specs.Answer.{answer_over}
 use Rattle.variant_store.specs.Gathering.{Gathers, GathersPart}
 
