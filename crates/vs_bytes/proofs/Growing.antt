@@ -1,5 +1,5 @@
 -- Bytes that are appended.
-use Rattle.std.proofs.Common.{◌≡◌, ◌∙◌, ap, ℕ, List, ◌++◌, append_assoc}
+use Rattle.std.proofs.Common.{◌∙◌, ap, ℕ, List, ◌++◌, append_assoc}
 use Rattle.vs_bytes.specs.Outcome.{Grows}
 
 pub grows_more : (old new more : List ℕ) → Grows old new → Grows old (new ++ more)

@@ -1,5 +1,5 @@
 -- Numbers of a count of bytes.
-use Rattle.std.proofs.Common.{◌≡◌, ◌^◌, ◌<◌, ◌≤◌, ◌⊎◌, inl, inr, ℕ, suc, List, ◌+◌, slice_index, get_or, get_or-drop, drop, arith, lit<, refl}
+use Rattle.std.proofs.Common.{◌^◌, ◌<◌, ◌≤◌, ◌⊎◌, inl, inr, ℕ, suc, List, ◌+◌, slice_index, get_or-drop, drop, arith, lit<}
 use Rattle.std.proofs.Math.Nat.{pow-le-pow_right}
 use Rattle.std.proofs.lemmas.Bool.{cases_lt}
 use Rattle.byteorder.specs.Numbers.{little_from-lt}

@@ -1,4 +1,4 @@
-use Rattle.std.proofs.Common.{◌≡◌, ◌∙◌, ◌<◌, ◌^◌, ap, arith}
+use Rattle.std.proofs.Common.{◌≡◌, ◌∙◌, ap, arith}
 use Rattle.byteorder.specs.Endian.{little_number}
 use Rattle.vs_bytes.specs.Numbers.{number}
 use Rattle.vs_bytes.proofs.Numbers.{number_fits, four_bytes}
