@@ -1,7 +1,6 @@
 pub mod ReadingBack
 pub mod Complete
 pub mod Cutting
-pub mod Holds
 pub mod NumberBytes
 pub mod Orders
 pub mod Scales

@@ -4,7 +4,7 @@ use Rattle.std.specs.List.{AllByRecursion, list_all}
 use Rattle.std.proofs.lemmas.Bool.{or_cases}
 use Rattle.exact_num.specs.Parsing.{is_digit, is_empty, is_whole, is_mark, front, back, past, power_digits, power_from, power_signed, power_of, ended, pointed, point_from, unsigned, sign_from, parsed}
 use Rattle.exact_num.specs.Spelling.{Sign, unmarked, plus, minus, Exponent, no_exponent, Written, mark_text, exponent_text, fraction_text, sign_text, IsDigit, IsWhole, IsExponent, IsSpelling}
-use Rattle.exact_num.proofs.Holds.{Holds, holds_none, holds_some, holds_map, holds_if, holds_past}
+use Rattle.byte_parsing.proofs.Holds.{Holds, holds_none, holds_some, holds_map, holds_if, holds_past}
 use Rattle.exact_num.proofs.Runs.{digits_are, split_run, front_digits, whole_is}
 
 abbrev IsEnd : List ℕ → Exponent → Type 0
