@@ -6,11 +6,14 @@ use Rattle.json_strings.specs.Pieces.{Piece, pieces_spelled}
 use Rattle.json_strings.specs.Meaning.{IsString}
 use Rattle.json_strings.proofs.Strings.{string_complete}
 use Rattle.json_grammar.specs.Grammar.{Written, null, boolean, number, text, array, object, Elements, no_elements, first_element, MoreElements, end_elements, next_element, Entry, entry, Entries, no_entries, first_entry, MoreEntries, end_entries, next_entry, IsGap, IsNumber, spelled, elements_spelled, more_elements_spelled, entry_spelled, entries_spelled, more_entries_spelled, IsWell, AreWellElements, AreWellMore, IsWellEntry, AreWellEntries, AreWellMoreEntries, nesting, elements_nesting, more_nesting, entry_nesting, entries_nesting, more_entries_nesting}
-use Rattle.json_grammar.specs.Reading.{Parse, is_space, is_numeric, past, number_at, value_by, value_at, nested, elements_at, more_elements_at, entries_at, entry_at, more_entries_at}
-use Rattle.json_grammar.proofs.Gaps.{Stops, gap_is, past_gap_is, gap_quiet, front_run, back_run}
+use Rattle.byte_parsing.specs.Parse.{Parse, Stops, past}
+use Rattle.byte_parsing.specs.Words.{is_numeric}
+use Rattle.byte_parsing.proofs.ListReading.{all_complete, more_complete}
+use Rattle.byte_parsing.proofs.Runs.{front_run, back_run}
+use Rattle.json_grammar.specs.Reading.{is_space, number_at, value_by, value_at, nested, elements_at, more_elements_at, entries_at, entry_at, more_entries_at}
+use Rattle.json_grammar.proofs.Gaps.{gap_passes, gap_is, past_gap_is, gap_quiet}
 use Rattle.json_grammar.proofs.Strings.{pieces_longer}
 use Rattle.json_grammar.proofs.Numbers.{Starts, number_passes, number_starts, number_complete}
-use Rattle.json_grammar.proofs.Listed.{all_complete, more_complete}
 
 -- The bytes behind a value stay behind it.
 
@@ -131,8 +134,8 @@ mutual
   elements_complete no_elements d after h n = refl
   elements_complete (first_element w gap es) d after h n =
       let ys : List ℕ = more_elements_spelled es after in
-      all_complete 93 no_elements first_element end_elements next_element (λ xs. value_at d xs) (spelled w (gap ++ ys)) w gap ys es after
-      (begins w (gap ++ ys) h.0).1 (complete w d (gap ++ ys) h.0 (omega arith) (gap_quiet gap ys h.1 (more_begin es after).1)) h.1 (more_begin es after).0
+      all_complete is_space 93 no_elements first_element end_elements next_element (λ xs. value_at d xs) (spelled w (gap ++ ys)) w gap ys es after
+      (begins w (gap ++ ys) h.0).1 (complete w d (gap ++ ys) h.0 (omega arith) (gap_quiet gap ys h.1 (more_begin es after).1)) (gap_passes gap h.1) (more_begin es after).0
       (more_complete_elements es d (length ys) after h.2 (omega arith) (le_refl _))
 
   more_complete_elements : (es : MoreElements) (d count : ℕ) (after : List ℕ) → AreWellMore es → more_nesting es ≤ d → length (more_elements_spelled es after) ≤ count → more_elements_at (λ xs. value_at d xs) count (more_elements_spelled es after) ≡ Some (es, after)
@@ -140,8 +143,8 @@ mutual
   more_complete_elements (next_element before w gap es) d count after h n c =
       let ys : List ℕ = more_elements_spelled es after in
       let lengths = longer w (gap ++ ys) in
-      more_complete 93 end_elements next_element (λ xs. value_at d xs) count (count - 1) before (spelled w (gap ++ ys)) w gap ys es after
-      (omega arith) refl h.0 (begins w (gap ++ ys) h.1).0 (complete w d (gap ++ ys) h.1 (omega arith) (gap_quiet gap ys h.2 (more_begin es after).1)) h.2 (more_begin es after).0
+      more_complete is_space 93 end_elements next_element (λ xs. value_at d xs) count (count - 1) before (spelled w (gap ++ ys)) w gap ys es after
+      (omega arith) refl (gap_passes before h.0) (begins w (gap ++ ys) h.1).0 (complete w d (gap ++ ys) h.1 (omega arith) (gap_quiet gap ys h.2 (more_begin es after).1)) (gap_passes gap h.2) (more_begin es after).0
       (more_complete_elements es d (count - 1) after h.3 (omega arith) (omega (arith, lengths, length-append gap ys, length-append before (spelled w (gap ++ ys)))))
 
   entry_complete : (e : Entry) (d : ℕ) (after : List ℕ) → IsWellEntry e → entry_nesting e ≤ d → Stops is_numeric after → entry_at (λ xs. value_at d xs) (entry_spelled e after) ≡ Some (e, after)
@@ -152,8 +155,8 @@ mutual
   entries_complete no_entries d after h n = refl
   entries_complete (first_entry e gap es) d after h n =
       let ys : List ℕ = more_entries_spelled es after in
-      all_complete 125 no_entries first_entry end_entries next_entry (λ xs. entry_at (λ zs. value_at d zs) xs) (entry_spelled e (gap ++ ys)) e gap ys es after
-      (entry_begins e (gap ++ ys)).1 (entry_complete e d (gap ++ ys) h.0 (omega arith) (gap_quiet gap ys h.1 (more_entries_begin es after).1)) h.1 (more_entries_begin es after).0
+      all_complete is_space 125 no_entries first_entry end_entries next_entry (λ xs. entry_at (λ zs. value_at d zs) xs) (entry_spelled e (gap ++ ys)) e gap ys es after
+      (entry_begins e (gap ++ ys)).1 (entry_complete e d (gap ++ ys) h.0 (omega arith) (gap_quiet gap ys h.1 (more_entries_begin es after).1)) (gap_passes gap h.1) (more_entries_begin es after).0
       (more_entries_complete es d (length ys) after h.2 (omega arith) (le_refl _))
 
   more_entries_complete : (es : MoreEntries) (d count : ℕ) (after : List ℕ) → AreWellMoreEntries es → more_entries_nesting es ≤ d → length (more_entries_spelled es after) ≤ count → more_entries_at (λ xs. value_at d xs) count (more_entries_spelled es after) ≡ Some (es, after)
@@ -161,6 +164,6 @@ mutual
   more_entries_complete (next_entry before e gap es) d count after h n c =
       let ys : List ℕ = more_entries_spelled es after in
       let lengths = entry_longer e (gap ++ ys) in
-      more_complete 125 end_entries next_entry (λ xs. entry_at (λ zs. value_at d zs) xs) count (count - 1) before (entry_spelled e (gap ++ ys)) e gap ys es after
-      (omega arith) refl h.0 (entry_begins e (gap ++ ys)).0 (entry_complete e d (gap ++ ys) h.1 (omega arith) (gap_quiet gap ys h.2 (more_entries_begin es after).1)) h.2 (more_entries_begin es after).0
+      more_complete is_space 125 end_entries next_entry (λ xs. entry_at (λ zs. value_at d zs) xs) count (count - 1) before (entry_spelled e (gap ++ ys)) e gap ys es after
+      (omega arith) refl (gap_passes before h.0) (entry_begins e (gap ++ ys)).0 (entry_complete e d (gap ++ ys) h.1 (omega arith) (gap_quiet gap ys h.2 (more_entries_begin es after).1)) (gap_passes gap h.2) (more_entries_begin es after).0
       (more_entries_complete es d (count - 1) after h.3 (omega arith) (omega (arith, lengths, length-append gap ys, length-append before (entry_spelled e (gap ++ ys)))))

@@ -1,43 +1,11 @@
--- Runs of bytes that pass a test, and white space.
-use Rattle.std.proofs.Common.{◌≡◌, ◌∙◌, inl, inr, refl, ap, ℕ, List, [], ◌∷◌, ◌++◌, Bool, true, false, cond, arith}
-use Rattle.std.specs.List.{AllByRecursion}
+-- White space.
+use Rattle.std.proofs.Common.{◌≡◌, ◌∙◌, inl, inr, refl, ap, ℕ, List, [], ◌∷◌, ◌++◌, true, false, arith}
 use Rattle.std.proofs.lemmas.Bool.Decides.{nat_tests}
+use Rattle.byte_parsing.specs.Parse.{Passes, Stops}
+use Rattle.byte_parsing.specs.Words.{is_numeric}
+use Rattle.byte_parsing.proofs.Runs.{front_run, back_run, split_run, front_passes}
 use Rattle.json_grammar.specs.Grammar.{IsSpace, IsGap}
-use Rattle.json_grammar.specs.Reading.{front, back, is_space, is_numeric, gap_of, past_gap}
-
-abbrev pub Passes : (ℕ → Bool) → List ℕ → Type 0
-Passes p xs = AllByRecursion (λ x. p x ≡ true) xs
-
--- the first byte, if there is one, fails the test
-abbrev pub Stops : (ℕ → Bool) → List ℕ → Type 0
-Stops p [] = Unit {0}
-Stops p (x ∷ xs) = p x ≡ false
-
-pub front_run : (p : ℕ → Bool) (run rest : List ℕ) → Passes p run → Stops p rest → front p (run ++ rest) ≡ run
-front_run p [] [] h s = refl
-front_run p [] (x ∷ rest) h s = rw s refl
-front_run p (x ∷ run) rest h s = rw (h.0, front_run p run rest h.1 s) refl
-
-pub back_run : (p : ℕ → Bool) (run rest : List ℕ) → Passes p run → Stops p rest → back p (run ++ rest) ≡ rest
-back_run p [] [] h s = refl
-back_run p [] (x ∷ rest) h s = rw s refl
-back_run p (x ∷ run) rest h s = rw (h.0, back_run p run rest h.1 s) refl
-
-pub split_run : (p : ℕ → Bool) (xs : List ℕ) → xs ≡ front p xs ++ back p xs
-split_run p [] = refl
-split_run p (x ∷ xs) = by (p x) (split_run p xs)
-  where
-    by : (b : Bool) → xs ≡ front p xs ++ back p xs → x ∷ xs ≡ cond b (x ∷ front p xs) [] ++ cond b (back p xs) (x ∷ xs)
-    by true e = ap (λ ys. x ∷ ys) e
-    by false e = refl
-
-pub front_passes : (p : ℕ → Bool) (xs : List ℕ) → Passes p (front p xs)
-front_passes p [] = tt
-front_passes p (x ∷ xs) = by (p x) refl (front_passes p xs)
-  where
-    by : (b : Bool) → p x ≡ b → Passes p (front p xs) → Passes p (cond b (x ∷ front p xs) [])
-    by true e h = (e, h)
-    by false e h = tt
+use Rattle.json_grammar.specs.Reading.{is_space, gap_of, past_gap}
 
 space_passes : (x : ℕ) → IsSpace x → is_space x ≡ true
 space_passes x (inl e) = rw e refl

@@ -1,9 +1,11 @@
 -- Whole lines.
 use Rattle.std.proofs.Common.{◌≡◌, refl, sym, ◌∙◌, subst, ℕ, ◌≤◌, max, List, [], ◌∷◌, true, Some, append-nil, arith}
 use Rattle.json_grammar.specs.Grammar.{Written, IsGap, nesting, spelled, IsWrittenAs}
-use Rattle.json_grammar.specs.Reading.{is_empty, is_numeric, gap_of, past_gap, text_within, document_at}
-use Rattle.json_grammar.proofs.Gaps.{Stops, gap_quiet, gap_front, gap_split, past_gap_is}
-use Rattle.json_grammar.proofs.Holds.{Holds, holds_none, holds_some, holds_then, holds_if}
+use Rattle.json_grammar.specs.Reading.{gap_of, past_gap, text_within, document_at}
+use Rattle.byte_parsing.specs.Parse.{Stops}
+use Rattle.byte_parsing.specs.Words.{is_empty, is_numeric}
+use Rattle.json_grammar.proofs.Gaps.{gap_quiet, gap_front, gap_split, past_gap_is}
+use Rattle.byte_parsing.proofs.Holds.{Holds, holds_none, holds_some, holds_then, holds_if}
 use Rattle.json_grammar.proofs.Complete.{begins, complete}
 use Rattle.json_grammar.proofs.Sound.{IsRead, sound}
 

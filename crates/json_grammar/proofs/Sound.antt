@@ -3,12 +3,15 @@ use Rattle.std.proofs.Common.{◌≡◌, refl, sym, ap, ◌∙◌, ℕ, suc, zer
 use Rattle.std.specs.Prelude.{codes}
 use Rattle.json_strings.specs.Pieces.{pieces_spelled}
 use Rattle.json_grammar.specs.Grammar.{Written, null, boolean, number, Elements, no_elements, first_element, MoreElements, end_elements, next_element, Entry, Entries, no_entries, first_entry, MoreEntries, end_entries, next_entry, spelled, elements_spelled, more_elements_spelled, entry_spelled, entries_spelled, more_entries_spelled, IsWell, AreWellElements, AreWellMore, IsWellEntry, AreWellEntries, AreWellMoreEntries, nesting, elements_nesting, more_nesting, entry_nesting, entries_nesting, more_entries_nesting}
-use Rattle.json_grammar.specs.Reading.{Parse, past_gap, is_numeric, front, back, past_word, word_at, number_at, value_by, value_at, nested, entry_at}
-use Rattle.json_grammar.proofs.Gaps.{split_run, gap_front, gap_split}
-use Rattle.json_grammar.proofs.Holds.{Holds, holds_none, holds_some, holds_then, holds_as, holds_map, holds_if, holds_past}
+use Rattle.byte_parsing.specs.Parse.{Parse, front, back}
+use Rattle.byte_parsing.specs.Words.{is_numeric}
+use Rattle.json_grammar.specs.Reading.{is_space, past_gap, word_at, number_at, value_by, value_at, nested, entry_at}
+use Rattle.byte_parsing.proofs.ListReading.{IsRead as Spells, Laws, all_sound}
+use Rattle.byte_parsing.proofs.Runs.{split_run}
+use Rattle.json_grammar.proofs.Gaps.{passes_gap, gap_front, gap_split}
+use Rattle.byte_parsing.proofs.Holds.{Holds, holds_none, holds_some, holds_then, holds_as, holds_map, holds_if, holds_past, holds_word}
 use Rattle.json_grammar.proofs.Strings.{string_sound}
 use Rattle.json_grammar.proofs.Numbers.{number_sound as number_is}
-use Rattle.json_grammar.proofs.Listed.{Reads, Laws, all_sound}
 
 -- what is known of a part of a value that is read
 pub record IsRead (Well : Type 0) (nested depth : ℕ) : Type 0 where
@@ -40,29 +43,29 @@ Inside d es = IsRead (AreWellElements es) (elements_nesting es + 1) d
 abbrev InsideObject : ℕ → Entries → Type 0
 InsideObject d es = IsRead (AreWellEntries es) (entries_nesting es + 1) d
 
-element_laws : (d : ℕ) → Laws spelled (Good d) more_elements_spelled (GoodMore d) elements_spelled (GoodElements d) 93 no_elements first_element end_elements next_element
+element_laws : (d : ℕ) → Laws is_space spelled (λ w after. Good d w) more_elements_spelled (λ m after. GoodMore d m) elements_spelled (λ es after. GoodElements d es) 93 first_element end_elements next_element
 element_laws d = record {
-  none_spelled = λ after. refl;
   first_spelled = λ a gap m after. refl;
   end_spelled = λ after. refl;
   next_spelled = λ before a gap m after. refl;
-  none_good = record { well = tt; within = zero-le };
-  first_good = λ a gap m p g q. record { well = (p.well, g, q.well); within = omega (arith, p.within, q.within) };
-  end_good = record { well = tt; within = zero-le };
-  next_good = λ before a gap m b p g q. record { well = (b, p.well, g, q.well); within = omega (arith, p.within, q.within) };
+  first_good = λ a gap m after p g q. record { well = (p.well, passes_gap gap g, q.well); within = omega (arith, p.within, q.within) };
+  end_good = λ after. record { well = tt; within = zero-le };
+  next_good = λ before a gap m after b p g q. record { well = (passes_gap before b, p.well, passes_gap gap g, q.well); within = omega (arith, p.within, q.within) };
 }
 
-entry_laws : (d : ℕ) → Laws entry_spelled (GoodEntry d) more_entries_spelled (GoodMoreEntries d) entries_spelled (GoodEntries d) 125 no_entries first_entry end_entries next_entry
+entry_laws : (d : ℕ) → Laws is_space entry_spelled (λ e after. GoodEntry d e) more_entries_spelled (λ m after. GoodMoreEntries d m) entries_spelled (λ es after. GoodEntries d es) 125 first_entry end_entries next_entry
 entry_laws d = record {
-  none_spelled = λ after. refl;
   first_spelled = λ a gap m after. refl;
   end_spelled = λ after. refl;
   next_spelled = λ before a gap m after. refl;
-  none_good = record { well = tt; within = zero-le };
-  first_good = λ a gap m p g q. record { well = (p.well, g, q.well); within = omega (arith, p.within, q.within) };
-  end_good = record { well = tt; within = zero-le };
-  next_good = λ before a gap m b p g q. record { well = (b, p.well, g, q.well); within = omega (arith, p.within, q.within) };
+  first_good = λ a gap m after p g q. record { well = (p.well, passes_gap gap g, q.well); within = omega (arith, p.within, q.within) };
+  end_good = λ after. record { well = tt; within = zero-le };
+  next_good = λ before a gap m after b p g q. record { well = (passes_gap before b, p.well, passes_gap gap g, q.well); within = omega (arith, p.within, q.within) };
 }
+
+-- what is read was spelled, and is good
+abbrev Reads : {A : Type 0} → (A → List ℕ → List ℕ) → (A → Type 0) → Parse A → Type 0
+Reads spell Good parse = Spells spell (λ a after. Good a) parse
 
 entry_sound : (d : ℕ) (value : Parse Written) → Reads spelled (Good d) value → Reads entry_spelled (GoodEntry d) (λ xs. entry_at value xs)
 entry_sound d value h xs =
@@ -73,11 +76,6 @@ entry_sound d value h xs =
       e ∙ ap (λ ys. 34 ∷ ys) (p.0 ∙ ap (λ ys. pieces_spelled name.0 ys) (gap_split name.1 _ (f ∙ ap (λ ys. 58 ∷ ys) (gap_split behind _ q.0)))),
       record { well = (p.1, gap_front name.1, gap_front behind, q.1.well); within = q.1.within },
     )))))
-
-word_sound : (word xs : List ℕ) → Holds (λ rest. xs ≡ word ++ rest) (past_word word xs)
-word_sound [] xs = holds_some _ xs refl
-word_sound (b ∷ word) xs =
-    holds_then _ _ _ _ (holds_past b xs) (λ ys e. holds_as _ _ _ (word_sound word ys) (λ rest f. e ∙ ap (λ zs. b ∷ zs) f))
 
 number_sound : (d : ℕ) → Reads spelled (Good d) (λ xs. number_at xs)
 number_sound d xs =
@@ -103,7 +101,7 @@ value_sound d elements entries h k (x ∷ xs) =
     (λ _. number_sound d (x ∷ xs)))))))
   where
     word : (w : Written) (bytes : List ℕ) → IsWell w → ((rest : List ℕ) → spelled w rest ≡ bytes ++ rest) → nesting w ≤ d → Holds (λ read. (x ∷ xs ≡ spelled read.0 read.1) × Good d read.0) (word_at bytes w (x ∷ xs))
-    word w bytes well spelling within = holds_map _ _ _ _ (word_sound bytes (x ∷ xs)) (λ rest e. (e ∙ sym (spelling rest), record { well = well; within = within }))
+    word w bytes well spelling within = holds_map _ _ _ _ (holds_word bytes (x ∷ xs)) (λ rest e. (e ∙ sym (spelling rest), record { well = well; within = within }))
 
 nested_sound : (d : ℕ) → Reads elements_spelled (Inside d) (nested d).0 × Reads entries_spelled (InsideObject d) (nested d).1
 unfolding nested
@@ -111,9 +109,9 @@ nested_sound zero = (λ xs. holds_none _, λ xs. holds_none _)
 nested_sound (suc d) =
     let below = nested_sound d in
     let value : Reads spelled (Good d) (λ xs. value_at d xs) = value_sound d (nested d).0 (nested d).1 below.0 below.1 in (
-      (λ xs. holds_as _ _ _ (all_sound _ _ _ _ _ _ 93 _ _ _ _ (element_laws d) (λ ys. value_at d ys) value xs) (λ read p.
+      (λ xs. holds_as _ _ _ (all_sound _ _ _ _ _ _ _ 93 _ _ _ (element_laws d) no_elements (λ after. refl) (λ after. record { well = tt; within = zero-le }) (λ ys. value_at d ys) value xs) (λ read p.
           (p.0, record { well = p.1.well; within = omega (arith, p.1.within) }))),
-      (λ xs. holds_as _ _ _ (all_sound _ _ _ _ _ _ 125 _ _ _ _ (entry_laws d) (λ ys. entry_at (λ zs. value_at d zs) ys) (entry_sound d (λ ys. value_at d ys) value) xs) (λ read p.
+      (λ xs. holds_as _ _ _ (all_sound _ _ _ _ _ _ _ 125 _ _ _ (entry_laws d) no_entries (λ after. refl) (λ after. record { well = tt; within = zero-le }) (λ ys. entry_at (λ zs. value_at d zs) ys) (entry_sound d (λ ys. value_at d ys) value) xs) (λ read p.
           (p.0, record { well = p.1.well; within = omega (arith, p.1.within) }))),
     )
 
