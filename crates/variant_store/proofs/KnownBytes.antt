@@ -1,5 +1,5 @@
 -- What a call says of known bytes, over objects in memory.
-use Rattle.std.proofs.Common.{◌≡◌, ◌∙◌, ◌⊎◌, inl, inr, refl, sym, subst, ℕ, List, [], Result, Ok, Err, arith}
+use Rattle.std.proofs.Common.{◌≡◌, ◌∙◌, ◌⊎◌, inl, inr, refl, sym, ap, subst, ℕ, List, [], Result, Ok, Err, arith}
 use Rattle.outside.specs.Devices.{Device}
 use Rattle.outside.specs.Memory.{Given, Taken, source_device, sink_device}
 use Rattle.outside.specs.declared.sink.SinkError.{SinkError}
@@ -9,7 +9,6 @@ use Rattle.json_documents.specs.declared.faults.InputFault.TheVariants as why
 use Rattle.json_documents.specs.declared.faults.Stop.{Stop}
 use Rattle.json_documents.specs.declared.faults.Stop.TheVariants.{Input, Taker}
 use Rattle.query_tree.specs.Asked.{Asked}
-use Rattle.variant_store.proofs.AskedWords.{one_asked}
 use Rattle.variant_store.specs.Command.{Command, scan, AskFor}
 use Rattle.variant_store.specs.Ends.{stream_end}
 use Rattle.variant_store.specs.InMemory.{Prints, IsNamed, StopsAtLine, StopsAtLimit}
@@ -24,37 +23,51 @@ use Rattle.variant_store.specs.declared.command_error.CommandError.TheVariants a
 abbrev in_memory : Given → Taken → World
 in_memory input out = world_of (source_device input) (sink_device out)
 
--- words that ask for a scan have this one done
-scanned : (words : List (List ℕ)) (asked : Asked) (before after : World) (done : Result (Unit {0}) CommandError) → AskScan words asked → Works words before after done → Does (scan asked) before after done
-scanned words asked before after done ask works = by works.command works.asked works.does
-  where
-    by : (command : Command) → AskFor words command → Does command before after done → Does (scan asked) before after done
-    by (scan other) is_other does = subst (λ (q : Asked). Does (scan q) before after done) (one_asked words other asked is_other ask) does
-
 -- at status 0
 
-pub record Whole (asked : Asked) (input left : Given) (out out_now : Taken) : Type 0 where
+pub record Whole (words : List (List ℕ)) (input left : Given) (out out_now : Taken) : Type 0 where
+  pub asked : Asked
+  pub ask : AskScan words asked
   pub prints : Prints asked input at_end out out_now
   pub at_end : left.left ≡ []
 
-pub whole : (words : List (List ℕ)) (asked : Asked) (input left : Given) (out out_now : Taken) → AskScan words asked → Works words (in_memory input out) (in_memory left out_now) (Ok tt) → Whole asked input left out out_now
-whole words asked input left out out_now ask works =
-    let does = scanned words asked (in_memory input out) (in_memory left out_now) (Ok tt) ask works in
-    by does.0 does.1 does.2
+whole_scan : (words : List (List ℕ)) (asked : Asked) (input left : Given) (out out_now : Taken) (end : Result (Unit {0}) (Stop SinkError)) → AskScan words asked → Ok tt ≡ stream_end end → Scans asked (in_memory input out) (in_memory left out_now) end → Whole words input left out out_now
+whole_scan words asked input left out out_now (Ok u) ask e s =
+    let gives = s.0.are_of input.left refl in
+    let none = gives.1 in
+    record { asked = asked; ask = ask; prints = record { documents = s.0.documents; are_all = gives.0; answers = s.0.answers }; at_end = cc }
+whole_scan words asked input left out out_now (Err (Input fault)) ask e s = cc
+whole_scan words asked input left out out_now (Err (Taker fault)) ask e s = cc
+
+pub whole : (words : List (List ℕ)) (input left : Given) (out out_now : Taken) → Works words (in_memory input out) (in_memory left out_now) (Ok tt) → Whole words input left out out_now
+whole words input left out out_now works = by works.command works.asked works.does
   where
-    by : (end : Result (Unit {0}) (Stop SinkError)) → Ok tt ≡ stream_end end → Scans asked (in_memory input out) (in_memory left out_now) end → Whole asked input left out out_now
-    by (Ok u) e s =
-        let gives = s.are_of input.left refl in
-        let none = gives.1 in
-        record { prints = record { documents = s.documents; are_all = gives.0; answers = s.answers }; at_end = cc }
-    by (Err (Input fault)) e s = cc
-    by (Err (Taker fault)) e s = cc
+    by : (command : Command) → AskFor words command → Does command (in_memory input out) (in_memory left out_now) (Ok tt) → Whole words input left out out_now
+    by (scan asked) ask does = whole_scan words asked input left out out_now does.0 ask does.1 does.2
+
+not_zero : (error : CommandError) → status_of error ≡ 0 → ⊥
+not_zero (error.BadWords bad) e = omega (arith, e)
+not_zero (error.BadLine n fault) e = omega (arith, e)
+not_zero error.InputTooLong e = omega (arith, e)
+not_zero error.ReadFault e = omega (arith, e)
+not_zero error.WriteFault e = omega (arith, e)
+not_zero error.NoMemory e = omega (arith, e)
+
+silent : (err err_now : Device) (status : ℕ) (done : Result (Unit {0}) CommandError) → status ≡ 0 → Ends done status err err_now → err_now ≡ err
+silent err err_now status (Ok u) zero_is e = e.1
+silent err err_now status (Err error) zero_is (inl h) = absurd (not_zero error (sym h.0 ∙ zero_is))
+silent err err_now status (Err error) zero_is (inr h) = let seven = h.0 in absurd (omega (arith, seven, zero_is))
+
+pub quiet : (words : List (List ℕ)) (before after : World) (err err_now : Taken) (status : ℕ) → status ≡ 0 → IsAnswer words before after (sink_device err) (sink_device err_now) status → err_now.written ≡ err.written
+quiet words before after err err_now status zero_is a =
+    let same = ap (λ (d : Device). d.bytes) (silent (sink_device err) (sink_device err_now) status a.done zero_is a.ends) in
+    cc
 
 -- at status 3
 
 named : (error : CommandError) (err err_now : Taken) → Reports error (sink_device err) (sink_device err_now) → IsNamed error err err_now
 named error err err_now (inl h) = inl h.0
-named error err err_now (inr h) = inr h.1.rose
+named error err err_now (inr h) = inr (record { count = h.0.0; is_part = h.0.1; gained = h.0.2; rose = h.1.rose })
 
 -- the status is that of the error, and its line was written
 reported : (error : CommandError) (status : ℕ) (err err_now : Device) → status ≡ 3 → IsReported error status err err_now → (status_of error ≡ 3) × Reports error err err_now
@@ -69,25 +82,29 @@ stopped : (asked : Asked) (input left : Given) (out out_now err err_now : Taken)
 stopped asked input left out out_now err err_now status (Ok u) three s e = let zero_is = e.0 in absurd (omega (arith, zero_is, three))
 stopped asked input left out out_now err err_now status (Err (Input (why.BadLine n fault))) three s e =
     let told = reported (error.BadLine n fault) status (sink_device err) (sink_device err_now) three e in
-    inl (record { line = n; fault = fault; prints = record { documents = s.documents; are_all = s.are_of input.left refl; answers = s.answers }; is_named = named (error.BadLine n fault) err err_now told.1 })
+    inl (record { line = n; fault = fault; prints = record { documents = s.0.documents; are_all = s.0.are_of input.left refl; answers = s.0.answers }; is_named = named (error.BadLine n fault) err err_now told.1 })
 stopped asked input left out out_now err err_now status (Err (Input why.InputTooLong)) three s e =
     let told = reported error.InputTooLong status (sink_device err) (sink_device err_now) three e in
-    inr (record { prints = record { documents = s.documents; are_all = s.are_of input.left refl; answers = s.answers }; is_named = named error.InputTooLong err err_now told.1 })
+    inr (record { prints = record { documents = s.0.documents; are_all = s.0.are_of input.left refl; answers = s.0.answers }; is_named = named error.InputTooLong err err_now told.1 })
 stopped asked input left out out_now err err_now status (Err (Input why.ReadFault)) three s e = let told = (reported error.ReadFault status (sink_device err) (sink_device err_now) three e).0 in absurd (omega (arith, told))
 stopped asked input left out out_now err err_now status (Err (Input why.NoMemory)) three s e = let told = (reported error.NoMemory status (sink_device err) (sink_device err_now) three e).0 in absurd (omega (arith, told))
 stopped asked input left out out_now err err_now status (Err (Taker sink.Failed)) three s e = let told = (reported error.WriteFault status (sink_device err) (sink_device err_now) three e).0 in absurd (omega (arith, told))
 stopped asked input left out out_now err err_now status (Err (Taker sink.NoMemory)) three s e = let told = (reported error.NoMemory status (sink_device err) (sink_device err_now) three e).0 in absurd (omega (arith, told))
 
-pub stops : (words : List (List ℕ)) (asked : Asked) (input left : Given) (out out_now err err_now : Taken) (status : ℕ) → AskScan words asked → status ≡ 3 → IsAnswer words (in_memory input out) (in_memory left out_now) (sink_device err) (sink_device err_now) status
-    → StopsAt asked input out out_now err err_now
-stops words asked input left out out_now err err_now status ask three a = by a.runs
+abbrev StopsSo : List (List ℕ) → Given → Taken → Taken → Taken → Taken → Type 0
+StopsSo words input out out_now err err_now = (asked : Asked) × AskScan words asked × StopsAt asked input out out_now err err_now
+
+pub stops : (words : List (List ℕ)) (input left : Given) (out out_now err err_now : Taken) (status : ℕ) → status ≡ 3 → IsAnswer words (in_memory input out) (in_memory left out_now) (sink_device err) (sink_device err_now) status
+    → StopsSo words input out out_now err err_now
+stops words input left out out_now err err_now status three a = by a.runs
   where
     ended : (done : Result (Unit {0}) CommandError) → a.done ≡ done → Ends done status (sink_device err) (sink_device err_now)
     ended done e = subst (λ (d : Result (Unit {0}) CommandError). Ends d status (sink_device err) (sink_device err_now)) e a.ends
 
-    by : Runs words (in_memory input out) (in_memory left out_now) a.done → StopsAt asked input out out_now err err_now
-    by (inl works) =
-        let does = scanned words asked (in_memory input out) (in_memory left out_now) a.done ask works in
-        stopped asked input left out out_now err err_now status does.0 three does.2 (ended (stream_end does.0) does.1)
-    by (inr (inl refused)) = let told = (reported (error.BadWords refused.bad) status (sink_device err) (sink_device err_now) three (ended (Err (error.BadWords refused.bad)) refused.is_told)).0 in absurd (omega (arith, told))
-    by (inr (inr lacking)) = let told = (reported error.NoMemory status (sink_device err) (sink_device err_now) three (ended (Err error.NoMemory) lacking.is_told)).0 in absurd (omega (arith, told))
+    by_command : (command : Command) → AskFor words command → Does command (in_memory input out) (in_memory left out_now) a.done → StopsSo words input out out_now err err_now
+    by_command (scan asked) ask does = (asked, ask, stopped asked input left out out_now err err_now status does.0 three does.2 (ended (stream_end does.0) does.1))
+
+    by : Runs words (in_memory input out) (in_memory left out_now) a.done → StopsSo words input out out_now err err_now
+    by (inl works) = by_command works.command works.asked works.does
+    by (inr (inl refused)) = let told = (reported (error.BadWords refused.bad) status (sink_device err) (sink_device err_now) three (ended (Err (error.BadWords refused.bad)) refused.answer_is)).0 in absurd (omega (arith, told))
+    by (inr (inr lacking)) = let told = (reported error.NoMemory status (sink_device err) (sink_device err_now) three (ended (Err error.NoMemory) lacking.answer_is)).0 in absurd (omega (arith, told))

@@ -1,13 +1,11 @@
--- How a call ends: what its parts answer, as the answer of the call, and which device failed.
-use Rattle.std.specs.Prelude.{◌≤◌, Result, Ok, Err}
-use Rattle.outside.specs.Devices.{IsCalm, Fails}
+-- How a call ends: what its parts answer, as the answer of the call.
+use Rattle.std.specs.Prelude.{Result, Ok, Err}
 use Rattle.outside.specs.declared.sink.SinkError.{SinkError}
 use Rattle.outside.specs.declared.sink.SinkError.TheVariants as sink
 use Rattle.json_documents.specs.declared.faults.InputFault.{InputFault}
 use Rattle.json_documents.specs.declared.faults.InputFault.TheVariants as input
 use Rattle.json_documents.specs.declared.faults.Stop.{Stop}
 use Rattle.json_documents.specs.declared.faults.Stop.TheVariants.{Input, Taker}
-use Rattle.variant_store.specs.World.{World, AreCalm}
 use Rattle.variant_store.specs.declared.words.WordsFault.{WordsFault}
 use Rattle.variant_store.specs.declared.words.WordsFault.TheVariants as words
 use Rattle.variant_store.specs.declared.command_error.CommandError.{CommandError}
@@ -33,13 +31,3 @@ abbrev pub stream_end : Result (Unit {0}) (Stop SinkError) → Result (Unit {0})
 stream_end (Ok u) = Ok u
 stream_end (Err (Input fault)) = Err (input_error fault)
 stream_end (Err (Taker fault)) = Err (output_error fault)
-
--- which device failed: a failed read comes to light unless a write was refused after it
-abbrev pub Counts : World → World → Result (Unit {0}) CommandError → Type 0
-Counts before after (Ok u) = AreCalm before after
-Counts before after (Err (BadWords bad)) = AreCalm before after
-Counts before after (Err (BadLine line fault)) = AreCalm before after
-Counts before after (Err InputTooLong) = AreCalm before after
-Counts before after (Err ReadFault) = Fails before.input after.input × IsCalm before.out after.out
-Counts before after (Err WriteFault) = (before.input.faults ≤ after.input.faults) × Fails before.out after.out
-Counts before after (Err NoMemory) = (before.input.faults ≤ after.input.faults) × IsCalm before.out after.out

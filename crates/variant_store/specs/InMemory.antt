@@ -1,5 +1,5 @@
 -- What a scan over objects in memory has printed, in bytes.
-use Rattle.std.specs.Prelude.{◌≡◌, ◌⊎◌, ℕ, List, ◌++◌}
+use Rattle.std.specs.Prelude.{◌≡◌, ◌⊎◌, ◌<◌, ℕ, List, ◌++◌, length, take}
 use Rattle.outside.specs.Devices.{Rose}
 use Rattle.outside.specs.Memory.{Given, Taken}
 use Rattle.json_tree.specs.Json.{Json}
@@ -17,9 +17,16 @@ pub record Prints (asked : Asked) (input : Given) (ending : Ending) (out out_now
   pub are_all : HasDocuments input.left documents ending
   pub answers : out_now.written ≡ out.written ++ answer_over asked documents
 
--- the error output gained the line of an error, unless it failed
+-- the error output failed, and gained a part of a line
+pub record IsCut (line : List ℕ) (err err_now : Taken) : Type 0 where
+  pub count : ℕ
+  pub is_part : count < length line
+  pub gained : err_now.written ≡ err.written ++ take count line
+  pub rose : Rose err.plan.faults err_now.plan.faults
+
+-- the error output gained the line of an error, or a part of it where it failed
 abbrev pub IsNamed : CommandError → Taken → Taken → Type 0
-IsNamed error err err_now = (err_now.written ≡ err.written ++ message_of error) ⊎ Rose err.plan.faults err_now.plan.faults
+IsNamed error err err_now = (err_now.written ≡ err.written ++ message_of error) ⊎ IsCut (message_of error) err err_now
 
 -- the output gained the lines before the first line that has a fault, which is named
 pub record StopsAtLine (asked : Asked) (input : Given) (out out_now err err_now : Taken) : Type 0 where

@@ -1,15 +1,16 @@
--- What `scan` leaves, by how it ends.
-use Rattle.std.specs.Prelude.{ℕ, List, Result, Ok, Err}
+-- What `scan` leaves, and which device failed, by how it ends.
+use Rattle.std.specs.Prelude.{◌≤◌, ℕ, List, Result, Ok, Err}
 use Rattle.std.specs.Io.KnownBytes.{Appends}
-use Rattle.outside.specs.Devices.{AppendsPrefix}
+use Rattle.outside.specs.Calls.{Broke}
+use Rattle.outside.specs.Devices.{IsCalm, AppendsPrefix}
 use Rattle.outside.specs.declared.sink.SinkError.{SinkError}
 use Rattle.json_tree.specs.Json.{Json}
-use Rattle.json_documents.specs.Input.{OfInput, Begins, GivesAll, Stops}
+use Rattle.json_documents.specs.Input.{OfInput, Begins, GivesAll, Stops, Faulted}
 use Rattle.json_documents.specs.declared.faults.Stop.{Stop}
 use Rattle.json_documents.specs.declared.faults.Stop.TheVariants.{Input, Taker}
 use Rattle.query_tree.specs.Asked.{Asked}
 use Rattle.variant_store.specs.Answer.{answer_over}
-use Rattle.variant_store.specs.World.{World}
+use Rattle.variant_store.specs.World.{World, AreCalm}
 
 -- the output gained the answer over these documents of the input
 pub record Answers (asked : Asked) (before after : World) (AreOf : List ℕ → List Json → Type 0) : Type 0 where
@@ -23,7 +24,8 @@ pub record AnswersPart (asked : Asked) (before after : World) : Type 0 where
   pub are_first : OfInput before.input.bytes (λ input. Begins input documents)
   pub answers : AppendsPrefix before.out.bytes after.out.bytes (answer_over asked documents)
 
+-- a failed read comes to light unless a write was refused after it
 abbrev pub Scans : Asked → World → World → Result (Unit {0}) (Stop SinkError) → Type 0
-Scans asked before after (Ok _) = Answers asked before after (λ input documents. GivesAll input after.input.bytes documents)
-Scans asked before after (Err (Input fault)) = Answers asked before after (λ input documents. Stops input after.input.bytes documents fault)
-Scans asked before after (Err (Taker fault)) = AnswersPart asked before after
+Scans asked before after (Ok _) = Answers asked before after (λ input documents. GivesAll input after.input.bytes documents) × AreCalm before after
+Scans asked before after (Err (Input fault)) = Answers asked before after (λ input documents. Stops input after.input.bytes documents fault) × Faulted before.input after.input fault × IsCalm before.out after.out
+Scans asked before after (Err (Taker fault)) = AnswersPart asked before after × (before.input.faults ≤ after.input.faults) × Broke before.out after.out fault

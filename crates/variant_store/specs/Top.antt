@@ -9,7 +9,7 @@ use Rattle.variant_store.specs.Words.{AskWrongly}
 use Rattle.variant_store.specs.Command.{Command, scan, AskFor}
 use Rattle.variant_store.specs.World.{World}
 use Rattle.variant_store.specs.Scan.{Scans}
-use Rattle.variant_store.specs.Ends.{stream_end, Counts}
+use Rattle.variant_store.specs.Ends.{stream_end}
 use Rattle.variant_store.specs.Report.{IsReported}
 use Rattle.variant_store.specs.declared.words.BadWords.{BadWords}
 use Rattle.variant_store.specs.declared.command_error.CommandError.{CommandError}
@@ -29,12 +29,12 @@ pub record Works (words : List (List ℕ)) (before after : World) (done : Result
 pub record Refuses (words : List (List ℕ)) (before after : World) (done : Result (Unit {0}) CommandError) : Type 0 where
   pub bad : BadWords
   pub wrong : AskWrongly words bad
-  pub is_told : done ≡ Err (error.BadWords bad)
+  pub answer_is : done ≡ Err (error.BadWords bad)
   pub untouched : after ≡ before
 
 -- there was no memory to read the words
 pub record LacksMemory (before after : World) (done : Result (Unit {0}) CommandError) : Type 0 where
-  pub is_told : done ≡ Err error.NoMemory
+  pub answer_is : done ≡ Err error.NoMemory
   pub untouched : after ≡ before
 
 abbrev pub Runs : List (List ℕ) → World → World → Result (Unit {0}) CommandError → Type 0
@@ -49,7 +49,6 @@ Ends (Err error) status err err_now = IsReported error status err err_now
 pub record IsAnswer (words : List (List ℕ)) (before after : World) (err err_now : Device) (status : ℕ) : Type 0 where
   pub done : Result (Unit {0}) CommandError
   pub runs : Runs words before after done
-  pub counts : Counts before after done
   pub ends : Ends done status err err_now
 
 -- the command has nothing to refuse in what it is handed

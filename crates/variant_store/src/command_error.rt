@@ -27,7 +27,7 @@ pub enum CommandError {
 }
 
 /// How a call ends whose words gave no command.
-pub fn refuse(fault: WordsFault) -> CommandError
+pub fn words_error(fault: WordsFault) -> CommandError
     ensures { result ≡ words_error fault }
 {
     match fault {
@@ -59,7 +59,7 @@ fn output_error(fault: SinkError) -> CommandError
 }
 
 /// How a call ends that prints something of each document.
-pub fn end_stream(done: Result<(), Stop<SinkError>>) -> Result<(), CommandError>
+pub fn stream_end(done: Result<(), Stop<SinkError>>) -> Result<(), CommandError>
     ensures { result ≡ stream_end done }
 {
     match done {

@@ -1,8 +1,10 @@
 //! The top call over objects in memory, where each byte is known.
 
-ghost use Rattle.std.specs.Prelude.{◌≡◌, ◌⊎◌, ◌+◌, ◌≤◌, length, []};
+ghost use Rattle.std.specs.Prelude.{◌≡◌, ◌⊎◌, ◌+◌, ◌≤◌, List, length, []};
+ghost use Rattle.outside.specs.Devices.{Rose};
 ghost use Rattle.outside.specs.Memory.{source_device, sink_device};
-ghost use Rattle.json_documents.specs.Documents.{at_end, max_input};
+ghost use Rattle.json_tree.specs.Json.{Json};
+ghost use Rattle.json_documents.specs.Documents.{at_end, max_input, HasDocuments};
 ghost use Rattle.query_tree.specs.Asked.{Asked};
 ghost use Rattle.variant_store.specs.Words.{AskScan};
 ghost use Rattle.variant_store.specs.World.{world_of};
@@ -22,10 +24,12 @@ pub fn vstore_in_memory(
     err: &mut MemSink,
 ) -> u8
     ensures answer { IsAnswer words.now (world_of (source_device input.old) (sink_device out.old)) (world_of (source_device input.new) (sink_device out.new)) (sink_device err.old) (sink_device err.new) result }
-    ensures prints { (asked : Asked) → AskScan words.now asked → result ≡ 0 → Prints asked input.old at_end out.old out.new }
-    ensures read_whole { (asked : Asked) → AskScan words.now asked → result ≡ 0 → input.new.left ≡ [] }
+    ensures prints { result ≡ 0 → (asked : Asked) × AskScan words.now asked × Prints asked input.old at_end out.old out.new }
+    ensures read_whole { result ≡ 0 → input.new.left ≡ [] }
+    ensures quiet { result ≡ 0 → err.new.written ≡ err.old.written }
     ensures bounded { length input.old.left ≤ max_input + 1 + length input.new.left }
-    ensures refused { (asked : Asked) → AskScan words.now asked → result ≡ 3 → StopsAtLine asked input.old out.old out.new err.old err.new ⊎ StopsAtLimit asked input.old out.old out.new err.old err.new }
+    ensures refused { result ≡ 3 → (asked : Asked) × AskScan words.now asked × (StopsAtLine asked input.old out.old out.new err.old err.new ⊎ StopsAtLimit asked input.old out.old out.new err.old err.new) }
+    ensures complete { (asked : Asked) (documents : List Json) → AskScan words.now asked → HasDocuments input.old.left documents at_end → (Rose input.old.plan.faults input.new.plan.faults → ⊥) → (Rose out.old.plan.faults out.new.plan.faults → ⊥) → (result ≡ 0) ⊎ (result ≡ 7) }
 {
     vstore(alloc, words, input, out, err)
 }

@@ -3,7 +3,6 @@
 ghost use Rattle.query_tree.specs.Asked.{query_of};
 ghost use Rattle.json_documents.specs.Input.{OfInput, IsWithinLimit};
 ghost use Rattle.variant_store.specs.World.{world_of};
-ghost use Rattle.variant_store.specs.Ends.{stream_end, Counts};
 ghost use Rattle.variant_store.specs.Scan.{Scans};
 
 use crate::gatherer::Gatherer;
@@ -15,7 +14,9 @@ use std::alloc::Global;
 /// Prints the lines of a query over the documents of an input.
 ///
 /// However the walk over the documents ends, the lines of those before are written, unless a write is
-/// refused or there is no memory for a line of the output.
+/// refused or there is no memory for a line of the output. Where there is no memory for a line of the
+/// input or its tree, the answer is `Err(Stop::Input(InputFault::NoMemory))`, and all lines before it
+/// are written.
 pub fn scan<I: Source, O: Sink>(
     alloc: Global,
     query: &Query,
@@ -23,7 +24,6 @@ pub fn scan<I: Source, O: Sink>(
     out: &mut O,
 ) -> Result<(), Stop<SinkError>>
     ensures scans { Scans (query_of query.now) (world_of (I.seen input.old) (O.seen out.old)) (world_of (I.seen input.new) (O.seen out.new)) result }
-    ensures counts { Counts (world_of (I.seen input.old) (O.seen out.old)) (world_of (I.seen input.new) (O.seen out.new)) (stream_end result) }
     ensures bounded { OfInput (I.seen input.old).bytes (λ bytes. IsWithinLimit bytes (I.seen input.new).bytes) }
 {
     let mut gatherer = Gatherer {

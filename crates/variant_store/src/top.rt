@@ -3,13 +3,12 @@
 ghost use Rattle.std.specs.Prelude.{◌≡◌, Ok, Err};
 ghost use Rattle.json_documents.specs.Input.{OfInput, IsWithinLimit};
 ghost use Rattle.variant_store.specs.World.{world_of};
-ghost use Rattle.variant_store.specs.Ends.{Counts};
 ghost use Rattle.variant_store.specs.Top.{Runs, Works, IsAnswer, Completes};
 ghost use Rattle.variant_store.specs.declared.words.BadWords.{BadWords};
 ghost use Rattle.variant_store.specs.declared.command_error.CommandError.TheVariants as error;
 
 use crate::command::{Command, asked_command};
-use crate::command_error::{CommandError, end_stream, refuse};
+use crate::command_error::{CommandError, stream_end, words_error};
 use crate::scan::scan;
 use outside::{Sink, Source};
 use std::alloc::Global;
@@ -25,13 +24,12 @@ fn run<I: Source, O: Sink>(
     out: &mut O,
 ) -> Result<(), CommandError>
     ensures runs { Runs words.now (world_of (I.seen input.old) (O.seen out.old)) (world_of (I.seen input.new) (O.seen out.new)) result }
-    ensures counts { Counts (world_of (I.seen input.old) (O.seen out.old)) (world_of (I.seen input.new) (O.seen out.new)) result }
     ensures bounded { OfInput (I.seen input.old).bytes (λ bytes. IsWithinLimit bytes (I.seen input.new).bytes) }
     ensures untouched { (bad : BadWords) → result ≡ Err (error.BadWords bad) → (input.new ≡ input.old) × (out.new ≡ out.old) }
 {
     match asked_command(alloc, words) {
-        Ok(Command::Scan(query)) => end_stream(scan(alloc, &query, input, out)),
-        Err(fault) => Err(refuse(fault)),
+        Ok(Command::Scan(query)) => stream_end(scan(alloc, &query, input, out)),
+        Err(fault) => Err(words_error(fault)),
     }
 }
 
@@ -50,7 +48,7 @@ fn run<I: Source, O: Sink>(
 /// | 3 | `vstore: input too long` | more than 2^40 bytes came; all lines before the one that the limit falls into are answered |
 /// | 5 | `vstore: read fault` | a read failed; all lines whose LF had come are answered |
 /// | 6 | `vstore: write fault` | a write to `out` failed; what it gained is a prefix of the answer |
-/// | 7 | `vstore: no memory` | an allocation was refused; where that was for a line of the input or its tree, all lines before it are answered |
+/// | 7 | `vstore: no memory` | there was no memory for something; what `out` gained is a prefix of the answer |
 ///
 /// A fault of `err` changes no status; where there is no memory for its line the status is 7.
 pub fn vstore<I: Source, O: Sink, E: Sink>(
