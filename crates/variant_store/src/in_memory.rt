@@ -1,10 +1,11 @@
 //! The top call over objects in memory, where each byte is known.
 
-ghost use Rattle.std.specs.Prelude.{◌≡◌, ◌⊎◌, ◌+◌, ◌≤◌, List, length, []};
+ghost use Rattle.std.specs.Prelude.{◌≡◌, ◌⊎◌, List, [], Some};
 ghost use Rattle.outside.specs.Devices.{Rose};
 ghost use Rattle.outside.specs.Memory.{source_device, sink_device};
 ghost use Rattle.json_tree.specs.Json.{Json};
-ghost use Rattle.json_documents.specs.Documents.{at_end, max_input, HasDocuments};
+ghost use Rattle.json_documents.specs.Documents.{at_end, HasDocuments};
+ghost use Rattle.json_documents.specs.Input.{IsWithinLimit};
 ghost use Rattle.query_tree.specs.Asked.{Asked};
 ghost use Rattle.variant_store.specs.Words.{AskScan};
 ghost use Rattle.variant_store.specs.World.{world_of};
@@ -27,7 +28,7 @@ pub fn vstore_in_memory(
     ensures prints { result ≡ 0 → (asked : Asked) × AskScan words.now asked × Prints asked input.old at_end out.old out.new }
     ensures read_whole { result ≡ 0 → input.new.left ≡ [] }
     ensures quiet { result ≡ 0 → err.new.written ≡ err.old.written }
-    ensures bounded { length input.old.left ≤ max_input + 1 + length input.new.left }
+    ensures bounded { IsWithinLimit input.old.left (Some input.new.left) }
     ensures refused { result ≡ 3 → (asked : Asked) × AskScan words.now asked × (StopsAtLine asked input.old out.old out.new err.old err.new ⊎ StopsAtLimit asked input.old out.old out.new err.old err.new) }
     ensures complete { (asked : Asked) (documents : List Json) → AskScan words.now asked → HasDocuments input.old.left documents at_end → (Rose input.old.plan.faults input.new.plan.faults → ⊥) → (Rose out.old.plan.faults out.new.plan.faults → ⊥) → (result ≡ 0) ⊎ (result ≡ 7) }
 {
