@@ -5,10 +5,11 @@ use Rattle.json_strings.specs.Pieces.{Piece, byte, short, unit, pieces_spelled}
 use Rattle.json_strings.specs.Meaning.{IsString, text_of, lone_of}
 use Rattle.json_strings.specs.Reading.{string_at, quoted_at}
 use Rattle.json_strings.specs.Content.{Quote}
-use Rattle.json_strings.specs.Told.{Reads}
+use Rattle.byte_parsing.specs.Outcome.{Reads}
 use Rattle.json_strings.specs.Shown.{quote}
 use Rattle.json_strings.specs.declared.reader.Quoted.{Quoted}
-use Rattle.json_strings.specs.declared.reader.QuotedFault.{QuotedFault}
+use Rattle.byte_parsing.specs.declared.refused.Absent.{Absent}
+use Rattle.byte_parsing.specs.declared.refused.Refused.{Refused}
 use Rattle.json_strings.proofs.Strings.{string_sound}
 
 pub spelled_longer : (ps : List Piece) (rest : List ℕ) → length rest < length (pieces_spelled ps rest)
@@ -35,6 +36,6 @@ told_string xs q e = by (string_at xs) refl e
         let same : ◌≡◌ {A = Quote} (text_of read.0, lone_of read.0, read.1) q = cc in
         subst (IsTold xs) same (record { pieces = read.0; spelled = known.0; is_string = known.1; text_is = refl; lone_is = refl })
 
-pub told_shorter : (xs : List ℕ) (result : Result Quoted QuotedFault) → Reads quote result (quoted_at xs) → IfOk result (λ q. length q.rest.now < length xs)
+pub told_shorter : (xs : List ℕ) (result : Result Quoted (Refused Absent)) → Reads quote result (quoted_at xs) → IfOk result (λ q. length q.rest.now < length xs)
 told_shorter xs (Ok q) e = let told = told_string xs (quote q) e in rw told.spelled (spelled_longer told.pieces q.rest.now)
 told_shorter xs (Err fault) e = tt

@@ -1,5 +1,5 @@
 -- The steps, over the terms that the code gives them by.
-use Rattle.std.proofs.Common.{◌≡◌, ◌∙◌, refl, sym, ap, subst, ⊎_elim, ℕ, zero, suc, ◌+◌, ◌≤◌, ◌<◌, List, [], ◌∷◌, Bool, true, false, ◌||◌, Option, Some, None, Result, take, drop, length, get_or, ne_eqb, arith, ◌≢◌}
+use Rattle.std.proofs.Common.{◌≡◌, ◌∙◌, refl, sym, ap, subst, ⊎_elim, ℕ, zero, suc, ◌+◌, ◌≤◌, ◌<◌, List, [], ◌∷◌, Bool, true, false, ◌||◌, Option, Some, None, Result, Err, take, drop, length, get_or, ne_eqb, arith, ◌≢◌}
 use Rattle.std.specs.Prelude.{is_some}
 use Rattle.std.specs.Option.{option_map, ok_or}
 use Rattle.std.specs.Str.{is_utf8, IsUtf8}
@@ -8,11 +8,13 @@ use Rattle.std.proofs.lemmas.List.{take_all}
 use Rattle.std.proofs.lemmas.Str.{is_utf8-from_IsUtf8, IsUtf8-from_is_utf8}
 use Rattle.json_strings.specs.Meaning.{short_char, unit_of}
 use Rattle.json_strings.specs.Reading.{is_plain, is_short, are_hex, pieces_behind, quoted_at}
-use Rattle.json_strings.specs.Told.{Reads, Tells}
+use Rattle.byte_parsing.specs.Outcome.{Reads}
+use Rattle.json_strings.specs.Told.{Tells}
 use Rattle.json_strings.specs.Shown.{quote}
 use Rattle.json_strings.specs.declared.reader.Quoted.{Quoted}
-use Rattle.json_strings.specs.declared.reader.QuotedFault.{QuotedFault}
-use Rattle.json_strings.specs.declared.reader.QuotedFault.TheVariants.{NotString, NoMemory}
+use Rattle.byte_parsing.specs.declared.refused.Absent.{Absent}
+use Rattle.byte_parsing.specs.declared.refused.Refused.{Refused}
+use Rattle.byte_parsing.specs.declared.refused.Refused.TheVariants.{Fault, NoMemory}
 use Rattle.json_strings.specs.Content.{State, Quote, completed, after_bytes, after_unit, quote_from, quote_behind, quote_unit, plain_state, if_utf8, only_utf8}
 use Rattle.json_strings.proofs.Digits.{short_not_u}
 use Rattle.json_strings.proofs.Steps.{short_step, unit_step, run_step, run_begins, quoted_by_state, ended, stopped}
@@ -53,10 +55,10 @@ slash_turn s xs behind x e f = rw (e, f) refl
 pub slash_stops : (s : State) (xs behind : List ℕ) (x : ℕ) → xs ≡ x ∷ behind → x ≡ 92 → pieces_behind behind ≡ None → quote_from s xs ≡ None
 slash_stops s xs behind x e f g = slash_turn s xs behind x e f ∙ ap (λ o. option_map (completed s) o) g
 
--- out of memory says nothing of either
-pub tells : (fault : QuotedFault) (P Q : Type 0) → Tells fault P → (P → Q) → Tells fault Q
-tells NotString P Q h k = k h
-tells NoMemory P Q h k = tt
+-- out of memory says nothing
+pub tells : (fault : Refused Absent) (P : Type 0) (defined : Option Quote) → Tells fault P → (P → defined ≡ None) → Reads {A = Quoted} {F = Absent} quote (Err fault) defined
+tells (Fault absent) P defined h k = k h
+tells NoMemory P defined h k = tt
 
 -- a string begins with the bytes that stand for themselves
 pub begins : (n : ℕ) (text run behind : List ℕ) → n ≤ length text → ((k : ℕ) → k < n → is_plain (get_or text k 0) ≡ true) → run ≡ take n text → behind ≡ drop n text → quoted_at text ≡ only_utf8 (quote_from (plain_state run) behind)
@@ -79,6 +81,6 @@ stop_turn s n text xs behind x h e f g k =
     rw f (stopped s x behind control (ne_eqb x 34 g) (ne_eqb x 92 k))
 
 -- where none is read, no string stands there
-pub reads_some : (found : Option Quoted) (result : Result Quoted QuotedFault) (defined : Option Quote) → result ≡ ok_or found NotString → option_map quote found ≡ defined → Reads quote result defined
-reads_some None result defined e f = rw e (sym f)
-reads_some (Some q) result defined e f = rw e (sym f)
+pub reads_some : (found : Option Quoted) (absent : Absent) (result : Result Quoted (Refused Absent)) (defined : Option Quote) → result ≡ ok_or found (Fault absent) → option_map quote found ≡ defined → Reads quote result defined
+reads_some None absent result defined e f = rw e (sym f)
+reads_some (Some q) absent result defined e f = rw e (sym f)

@@ -1,10 +1,11 @@
 -- The reading of a string as functions on its bytes, from behind its opening quote on. They give its
 -- pieces and the bytes behind its closing quote.
-use Rattle.std.specs.Prelude.{◌==◌, nat_le, nat_lt, ℕ, List, [], ◌∷◌, Bool, not, ◌&&◌, cond, Option, Some, None, option_and_then}
+use Rattle.std.specs.Prelude.{◌==◌, nat_le, nat_lt, ℕ, List, [], ◌∷◌, Bool, not, ◌&&◌, cond, if◌then◌else◌, Option, Some, None, option_and_then}
 use Rattle.std.specs.Option.{option_map}
 use Rattle.std.specs.List.{list_any}
 use Rattle.std.specs.Char.{digit_value}
 use Rattle.std.specs.Str.{is_utf8}
+use Rattle.byte_parsing.specs.Parse.{and_then}
 use Rattle.json_strings.specs.Pieces.{Piece, byte, short, unit, short_escapes}
 use Rattle.json_strings.specs.Meaning.{text_of, lone_of}
 
@@ -56,3 +57,11 @@ string_at xs = option_and_then (λ read. cond (is_utf8 (text_of read.0)) (Some r
 -- its text, whether some surrogate has no partner, and the bytes behind it
 abbrev pub quoted_at : List ℕ → Option (List ℕ × Bool × List ℕ)
 quoted_at xs = option_map (λ read. (text_of read.0, lone_of read.0, read.1)) (string_at xs)
+
+-- a string in which each surrogate has its partner
+abbrev pub paired_string_at : List ℕ → Option (List Piece × List ℕ)
+paired_string_at xs = and_then (string_at xs) (λ read. if lone_of read.0 then None else Some read)
+
+-- its text, and the bytes behind it
+abbrev pub paired_text_at : List ℕ → Option (List ℕ × List ℕ)
+paired_text_at xs = option_map (λ read. (text_of read.0, read.1)) (paired_string_at xs)

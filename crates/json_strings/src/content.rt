@@ -10,8 +10,9 @@ ghost use Rattle.std.specs.Char.Utf16.{is_high_surrogate, is_low_surrogate, surr
 ghost use Rattle.std.proofs.Props.{props};
 
 use crate::escapes::{short_escape, unit_escape};
-use crate::reader::{Quoted, QuotedFault};
+use crate::reader::Quoted;
 use crate::runs::plain_len;
+use byte_parsing::{Absent, Refused};
 use std::alloc::Global;
 use vs_bytes::{NoMemory, Text};
 
@@ -109,49 +110,49 @@ impl Content {
     }
 
     /// Reads an escape from behind its backslash on, and gives what is behind it.
-    pub fn escape<'a>(&mut self, text: &'a [u8]) -> Result<&'a [u8], QuotedFault>
+    pub fn escape<'a>(&mut self, text: &'a [u8]) -> Result<&'a [u8], Refused<Absent>>
         ensures shorter { IfOk result (λ rest. length rest.now < length text.now) }
         ensures told { MatchResult result (λ rest. quote_behind (state self.old) text.now ≡ quote_from (state self.new) rest.now) (λ fault. Tells fault (pieces_behind text.now ≡ None)) }
     {
         match text {
-            [] => Err(QuotedFault::NotString),
+            [] => Err(Refused::Fault(Absent)),
             [b'u', rest @ ..] => self.unit(rest),
             [first, rest @ ..] => match short_escape(*first) {
                 Some(byte) => {
                     self.add_bytes(&[byte])?;
                     Ok(rest)
                 }
-                None => Err(QuotedFault::NotString),
+                None => Err(Refused::Fault(Absent)),
             },
         }
     }
 
     // Reads the four digits behind \u, and gives what is behind them.
-    fn unit<'a>(&mut self, text: &'a [u8]) -> Result<&'a [u8], QuotedFault>
+    fn unit<'a>(&mut self, text: &'a [u8]) -> Result<&'a [u8], Refused<Absent>>
         ensures shorter { IfOk result (λ rest. length rest.now < length text.now) }
         ensures told { MatchResult result (λ rest. quote_unit (state self.old) text.now ≡ quote_from (state self.new) rest.now) (λ fault. Tells fault (pieces_unit text.now ≡ None)) }
     {
         let [a, b, c, d, rest @ ..] = text else {
-            return Err(QuotedFault::NotString);
+            return Err(Refused::Fault(Absent));
         };
         match unit_escape(*a, *b, *c, *d) {
             Some(unit) => {
                 self.add_unit(unit)?;
                 Ok(rest)
             }
-            None => Err(QuotedFault::NotString),
+            None => Err(Refused::Fault(Absent)),
         }
     }
 
     /// Takes the bytes in front that stand for themselves, and gives what is behind them.
-    pub fn run<'a>(&mut self, text: &'a [u8]) -> Result<&'a [u8], QuotedFault>
+    pub fn run<'a>(&mut self, text: &'a [u8]) -> Result<&'a [u8], Refused<Absent>>
         requires { 0 < length text.now }
         ensures shorter { IfOk result (λ rest. length rest.now < length text.now) }
         ensures told { MatchResult result (λ rest. quote_from (state self.old) text.now ≡ quote_from (state self.new) rest.now) (λ fault. Tells fault (is_plain (slice_index text.now 0) ≡ false)) }
     {
         let len = plain_len(text);
         if len == 0 {
-            return Err(QuotedFault::NotString);
+            return Err(Refused::Fault(Absent));
         }
         let (run, rest) = text.split_at(len);
         self.add_bytes(run)?;

@@ -8,7 +8,7 @@
 //!
 //! | Module | What it holds |
 //! |---|---|
-//! | `reader` | `read_quoted`: the rest of a string; `read_string`: a string at a place; their faults |
+//! | `reader` | `read_quoted`, `read_text`: the rest of a string; `read_string`: a string at a place |
 //! | `content` | what was read of a string that has escapes |
 //! | `escapes` | escapes, from behind their backslash on |
 //! | `runs` | the bytes in front that stand for themselves |
@@ -27,4 +27,4 @@ pub use laws::{
     strings_are_complete, strings_are_one, strings_are_sound, strings_in_utf8_mean_utf8,
     utf8_is_judged_once,
 };
-pub use reader::{Quoted, QuotedFault, StringFault, read_quoted, read_string};
+pub use reader::{Quoted, StringFault, read_quoted, read_string, read_text};

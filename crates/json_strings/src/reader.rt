@@ -2,27 +2,18 @@
 
 ghost use Rattle.std.specs.Prelude.{◌≡◌, ◌<◌, ℕ, List, Bool, true, false, Some, length, IfOk, IsErrOf};
 ghost use Rattle.std.specs.Str.{IsUtf8};
+ghost use Rattle.byte_parsing.specs.Outcome.{Reads};
 ghost use Rattle.json_strings.specs.Content.{plain_state, quote_from, if_utf8, only_utf8};
 ghost use Rattle.json_strings.specs.Places.{IsStringAt};
-ghost use Rattle.json_strings.specs.Reading.{quoted_at};
+ghost use Rattle.json_strings.specs.Reading.{quoted_at, paired_text_at};
 ghost use Rattle.json_strings.specs.Shown.{quote};
-ghost use Rattle.json_strings.specs.Told.{Reads};
-ghost use Rattle.json_strings.specs.declared.reader.QuotedFault.TheVariants.{NoMemory as OutOfMemory};
 
 use crate::ascii_runs::ascii_len;
 use crate::content::Content;
 use crate::runs::plain_len;
+use byte_parsing::{Absent, Refused};
 use std::alloc::Global;
-use vs_bytes::{NoMemory, Text};
-
-/// Why no string was read.
-#[derive(Clone, Copy, PartialEq, Eq, Debug, Drop)]
-pub enum QuotedFault {
-    /// No string stands there.
-    NotString,
-    /// There was no memory for its text.
-    NoMemory,
-}
+use vs_bytes::Text;
 
 /// Why no string was read at a place.
 #[derive(Clone, Copy, PartialEq, Eq, Debug, Drop)]
@@ -46,16 +37,8 @@ pub struct Quoted<'a> {
     pub rest: &'a [u8],
 }
 
-impl From<NoMemory> for QuotedFault {
-    ghost from_gives = { λ _ fault. fault ≡ OutOfMemory };
-
-    fn from(_error: NoMemory) -> QuotedFault {
-        QuotedFault::NoMemory
-    }
-}
-
 // A string of bytes that stand for themselves, behind which `rest` stands.
-fn read_plain<'a>(alloc: Global, run: &[u8], rest: &'a [u8]) -> Result<Quoted<'a>, QuotedFault>
+fn read_plain<'a>(alloc: Global, run: &[u8], rest: &'a [u8]) -> Result<Quoted<'a>, Refused<Absent>>
     ensures { Reads quote result (if_utf8 (run.now, false, rest.now)) }
 {
     match std::str::from_utf8(run) {
@@ -64,19 +47,23 @@ fn read_plain<'a>(alloc: Global, run: &[u8], rest: &'a [u8]) -> Result<Quoted<'a
             lone: false,
             rest,
         }),
-        Err(_) => Err(QuotedFault::NotString),
+        Err(_) => Err(Refused::Fault(Absent)),
     }
 }
 
 // The rest of a string that begins with bytes that stand for themselves.
-fn read_escaped<'a>(alloc: Global, run: &[u8], text: &'a [u8]) -> Result<Quoted<'a>, QuotedFault>
+fn read_escaped<'a>(
+    alloc: Global,
+    run: &[u8],
+    text: &'a [u8],
+) -> Result<Quoted<'a>, Refused<Absent>>
     ensures { Reads quote result (only_utf8 (quote_from (plain_state run.now) text.now)) }
 {
     let mut content = Content::begin(alloc, run)?;
     let mut rest = text;
     while let Some((first, behind)) = rest.split_first() {
         match *first {
-            b'"' => return content.end(behind).ok_or(QuotedFault::NotString),
+            b'"' => return content.end(behind).ok_or(Refused::Fault(Absent)),
             b'\\' => match content.escape(behind) {
                 Ok(after) => rest = after,
                 Err(fault) => return Err(fault),
@@ -84,12 +71,12 @@ fn read_escaped<'a>(alloc: Global, run: &[u8], text: &'a [u8]) -> Result<Quoted<
             _ => rest = content.run(rest)?,
         }
     }
-    Err(QuotedFault::NotString)
+    Err(Refused::Fault(Absent))
 }
 
 // A string of ASCII bytes that stand for themselves, behind which `rest` stands.
 #[inline(always)]
-fn read_ascii<'a>(alloc: Global, run: &[u8], rest: &'a [u8]) -> Result<Quoted<'a>, QuotedFault>
+fn read_ascii<'a>(alloc: Global, run: &[u8], rest: &'a [u8]) -> Result<Quoted<'a>, Refused<Absent>>
     requires { IsUtf8 run.now }
     ensures { Reads quote result (Some (run.now, false, rest.now)) }
 {
@@ -102,27 +89,26 @@ fn read_ascii<'a>(alloc: Global, run: &[u8], rest: &'a [u8]) -> Result<Quoted<'a
 
 // Any string.
 #[inline(never)]
-fn read_any<'a>(alloc: Global, text: &'a [u8]) -> Result<Quoted<'a>, QuotedFault>
+fn read_any<'a>(alloc: Global, text: &'a [u8]) -> Result<Quoted<'a>, Refused<Absent>>
     ensures told { Reads quote result (quoted_at text.now) }
     ensures shorter { IfOk result (λ quoted. length quoted.rest.now < length text.now) }
 {
     let (run, behind) = text.split_at(plain_len(text));
     let Some((first, rest)) = behind.split_first() else {
-        return Err(QuotedFault::NotString);
+        return Err(Refused::Fault(Absent));
     };
     match *first {
         b'"' => read_plain(alloc, run, rest),
         b'\\' => read_escaped(alloc, run, behind),
-        _ => Err(QuotedFault::NotString),
+        _ => Err(Refused::Fault(Absent)),
     }
 }
 
 /// Reads the rest of a string, from behind its opening quote on.
 ///
-/// A string whose text isn't UTF-8 is no string. One without escapes is copied once. Its fault is
-/// [`QuotedFault::NotString`] just where no string stands there.
+/// A string whose text isn't UTF-8 is no string. One without escapes is copied once.
 #[inline(always)]
-pub fn read_quoted<'a>(alloc: Global, text: &'a [u8]) -> Result<Quoted<'a>, QuotedFault>
+pub fn read_quoted<'a>(alloc: Global, text: &'a [u8]) -> Result<Quoted<'a>, Refused<Absent>>
     ensures told { Reads quote result (quoted_at text.now) }
     ensures shorter { IfOk result (λ quoted. length quoted.rest.now < length text.now) }
 {
@@ -133,6 +119,18 @@ pub fn read_quoted<'a>(alloc: Global, text: &'a [u8]) -> Result<Quoted<'a>, Quot
         }
     }
     read_any(alloc, text)
+}
+
+/// Reads the rest of a string, from behind its opening quote on, and gives its text and the bytes behind
+/// its closing quote. A string in which some surrogate has no partner has no text.
+pub fn read_text(alloc: Global, text: &[u8]) -> Result<(Text, &[u8]), Refused<Absent>>
+    ensures { Reads (λ x. (x.0, x.1.now)) result (paired_text_at text.now) }
+{
+    let quoted = read_quoted(alloc, text)?;
+    if quoted.lone {
+        return Err(Refused::Fault(Absent));
+    }
+    Ok((quoted.text, quoted.rest))
 }
 
 /// Reads the quoted string that begins with its quote at `at`, and gives its text and the place after
@@ -159,7 +157,7 @@ pub fn read_string(alloc: Global, bytes: &[u8], at: usize) -> Result<(Text, usiz
             }
             Ok((quoted.text, bytes.len() - quoted.rest.len()))
         }
-        Err(QuotedFault::NotString) => Err(StringFault::NotString),
-        Err(QuotedFault::NoMemory) => Err(StringFault::NoMemory),
+        Err(Refused::Fault(Absent)) => Err(StringFault::NotString),
+        Err(Refused::NoMemory) => Err(StringFault::NoMemory),
     }
 }

@@ -7,7 +7,7 @@ use Rattle.json_strings.proofs.reader.read_escaped.Goals as goal
 pub returns-in-34 : goal.returns-in-34
 returns-in-34 c =
     let turn = quote_turn (state c.loop-first.content) _ c.in-Some.behind.now _ c.in-Some.ensures.cases.0 c.in-34.is in
-    reads_some c.end.result _ _ c.ok_or.ensures.value (c.end.ensures ∙ ap only_utf8 (sym turn ∙ c.loop-first.invariant))
+    reads_some c.end.result _ _ _ c.ok_or.ensures.value (c.end.ensures ∙ ap only_utf8 (sym turn ∙ c.loop-first.invariant))
 
 pub returns-in-Err : goal.returns-in-Err
 returns-in-Err c =

@@ -14,9 +14,9 @@ returns-then-quoted-clause-lone c = λ _. (
   string_there c.args.bytes.now c.split_at.result.1.now c.in-Some.text.now c.args.at _ (quote c.in-Ok.quoted) true c.split_at.ensures.back c.in-Some.ensures.cases.0 c.if-first-ne34.false c.in-Ok.ensures.told c.if-quoted.true,
 )
 
-pub returns-in-Err-NotString-clause-none : goal.returns-in-Err-NotString-clause-none
-returns-in-Err-NotString-clause-none c = λ _.
-    none_there c.args.bytes.now c.split_at.result.1.now c.in-Some.text.now c.args.at _ c.split_at.ensures.back c.in-Some.ensures.cases.0 (rw c.in-Err-NotString.field-0-is at c.in-Err-NotString.ensures.told)
+pub returns-in-Err-Fault-clause-none : goal.returns-in-Err-Fault-clause-none
+returns-in-Err-Fault-clause-none c = λ _.
+    none_there c.args.bytes.now c.split_at.result.1.now c.in-Some.text.now c.args.at _ c.split_at.ensures.back c.in-Some.ensures.cases.0 (rw c.in-Err-Fault.field-0-is at c.in-Err-Fault.ensures.told)
 
 pub returns-then-at-bytes-clause-none : goal.returns-then-at-bytes-clause-none
 returns-then-at-bytes-clause-none c = λ _. none_past c.args.bytes.now c.args.at (omega arith)
