@@ -4,8 +4,10 @@ use Rattle.std.proofs.Math.Bool.{or_assoc}
 use Rattle.std.proofs.lemmas.Bool.Decides.{nat_tests}
 use Rattle.json_strings.specs.Pieces.{Piece, byte, short, unit, IsHexDigit, ArePieces, pieces_spelled}
 use Rattle.json_grammar.specs.Grammar.{Written, null, boolean, number, text, array, object, Elements, no_elements, first_element, MoreElements, end_elements, next_element, Entry, entry, Entries, no_entries, first_entry, MoreEntries, end_entries, next_entry, IsGap, IsWell, AreWellElements, AreWellMore, IsWellEntry, AreWellEntries, AreWellMoreEntries, IsWrittenAs, spelled, elements_spelled, more_elements_spelled, entry_spelled, entries_spelled, more_entries_spelled, nesting, elements_nesting, more_nesting, entry_nesting, entries_nesting, more_entries_nesting}
-use Rattle.json_grammar.specs.Reading.{is_numeric, is_space}
-use Rattle.json_grammar.proofs.Gaps.{Passes, gap_passes}
+use Rattle.byte_parsing.specs.Words.{is_numeric}
+use Rattle.json_grammar.specs.Reading.{is_space}
+use Rattle.byte_parsing.specs.Parse.{Passes}
+use Rattle.json_grammar.proofs.Gaps.{gap_passes}
 use Rattle.json_grammar.proofs.Numbers.{number_passes}
 use Rattle.exact_json.specs.Brackets.{outside, inside, is_too_deep}
 

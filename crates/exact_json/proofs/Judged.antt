@@ -6,7 +6,9 @@ use Rattle.std.proofs.lemmas.Bool.Decides.{nat_tests}
 use Rattle.std.proofs.lemmas.Str.{is_utf8-from_IsUtf8, IsUtf8-from_is_utf8}
 use Rattle.json_tree.specs.Json.{Json}
 use Rattle.json_grammar.specs.Grammar.{Written, IsWrittenAs, nesting}
-use Rattle.json_grammar.specs.Reading.{and_then, past_gap, is_empty, value_at, document_at}
+use Rattle.byte_parsing.specs.Parse.{and_then}
+use Rattle.byte_parsing.specs.Words.{is_empty}
+use Rattle.json_grammar.specs.Reading.{past_gap, value_at, document_at}
 use Rattle.json_grammar.proofs.Lines.{line_complete, line_sound}
 use Rattle.json_lines.specs.Cut.{is_long, max_line}
 use Rattle.exact_json.specs.Brackets.{is_too_deep}

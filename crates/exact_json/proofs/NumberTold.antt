@@ -1,5 +1,5 @@
 -- A number, by the judgement of its text.
-use Rattle.std.proofs.Common.{◌≡◌, refl, ap, ℕ, List, [], ◌∷◌, cond, Option, Some, None}
+use Rattle.std.proofs.Common.{◌≡◌, refl, ℕ, List, cond, Option, Some, None}
 use Rattle.std.specs.Prelude.{is_some, not, ok_or}
 use Rattle.exact_num.specs.Decimal.{Decimal}
 use Rattle.exact_num.specs.declared.fault.NumFault.TheVariants.{TooWide}
@@ -10,7 +10,9 @@ use Rattle.exact_num.specs.Reading as numbers
 use Rattle.exact_num.specs.Spelling as parts
 use Rattle.std.specs.Result.{result_ok}
 use Rattle.json_grammar.specs.Grammar as written
-use Rattle.json_grammar.specs.Reading.{front, back, is_numeric, number_at}
+use Rattle.byte_parsing.specs.Parse.{front, back}
+use Rattle.byte_parsing.specs.Words.{is_numeric}
+use Rattle.json_grammar.specs.Reading.{number_at}
 use Rattle.exact_json.specs.Meaning.{Flaws, joined, number_or_null, wide_flaw}
 use Rattle.exact_json.specs.Parsing.{told, told_number}
 
@@ -18,20 +20,9 @@ judged : (before : Flaws) (rest : List ℕ) (o : Option Decimal) → told_number
 judged before rest None = refl
 judged before rest (Some d) = refl
 
-cut_told : (before : Flaws) (text : List ℕ) → told before (number_at text) ≡ told_number before (back is_numeric text) (read_of (front is_numeric text))
-cut_told before text = by (parsed (front is_numeric text)) refl
+pub number_told : (before : Flaws) (text : List ℕ) → told before (number_at text) ≡ told_number before (after_number text) (read_of (number_run text))
+number_told before text = by (parsed (front is_numeric text)) refl
   where
     by : (o : Option parts.Written) → parsed (front is_numeric text) ≡ o → told before (cond (is_some o) (Some (written.number (front is_numeric text), back is_numeric text)) None) ≡ told_number before (back is_numeric text) (read_from o)
     by None e = refl
     by (Some w) e = rw (e, judged before (back is_numeric text) (numbers.number_of w)) refl
-
-run_is_front : (xs : List ℕ) → number_run xs ≡ front is_numeric xs
-run_is_front [] = refl
-run_is_front (x ∷ xs) = ap (λ ys. cond (is_numeric x) (x ∷ ys) []) (run_is_front xs)
-
-after_is_back : (xs : List ℕ) → after_number xs ≡ back is_numeric xs
-after_is_back [] = refl
-after_is_back (x ∷ xs) = ap (λ ys. cond (is_numeric x) ys (x ∷ xs)) (after_is_back xs)
-
-pub number_told : (before : Flaws) (text : List ℕ) → told before (number_at text) ≡ told_number before (after_number text) (read_of (number_run text))
-number_told before text = rw (run_is_front text, after_is_back text) (cut_told before text)

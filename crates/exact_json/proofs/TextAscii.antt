@@ -9,8 +9,8 @@ use Rattle.std.proofs.lemmas.Grind.{flat_map-append}
 use Rattle.std.proofs.lemmas.Str.{encode_ascii, IsUtf8-append, IsUtf8-encode, IsUtf8-from_ascii, IsUtf8-from_is_utf8, IsUtf8-nil}
 use Rattle.json_tree.specs.Text.{escaped, quoted}
 use Rattle.json_grammar.specs.Grammar.{IsNumber}
-use Rattle.json_grammar.specs.Reading.{is_numeric}
-use Rattle.json_grammar.proofs.Gaps.{Passes}
+use Rattle.byte_parsing.specs.Words.{is_numeric}
+use Rattle.byte_parsing.specs.Parse.{Passes}
 use Rattle.json_grammar.proofs.Numbers.{number_passes}
 use Rattle.json_tree.proofs.QuotedStrings.{shown}
 

@@ -8,17 +8,12 @@ use Rattle.json_strings.specs.Reading.{string_at, quoted_at}
 use Rattle.json_tree.specs.Json.{Json, parts_of, part, text, array}
 use Rattle.json_grammar.specs.Grammar as written
 use Rattle.json_grammar.specs.Grammar.{Written, Elements, no_elements, first_element, MoreElements, end_elements, next_element, Entry, entry, Entries, no_entries, first_entry, MoreEntries, end_entries, next_entry}
-use Rattle.json_grammar.specs.Reading.{Parse, and_then, gap_of, past_gap, past, more_at, all_at, entry_at, text_at, array_at, object_at, elements_at, entries_at, value_at, nested}
+use Rattle.byte_parsing.specs.Lists.{more_at, all_at}
+use Rattle.byte_parsing.specs.Parse.{Parse, and_then, past}
+use Rattle.json_grammar.specs.Reading.{is_space, gap_of, past_gap, entry_at, text_at, array_at, object_at, elements_at, entries_at, value_at, nested}
 use Rattle.exact_json.specs.Meaning.{Flaws, flawless, joined, lone_flaw, repeated_flaw, tree_of, flaws_of, parts_in, more_parts_in, elements_flaws, more_elements_flaws, pair_in, entry_flaws, pairs_in, more_pairs_in, entries_flaws, more_entries_flaws, object_or_null}
-use Rattle.exact_json.specs.Parsing.{Tells, told_as, told, told_string, told_elements, told_entry, told_entries, items_in, more_items_in}
-use Rattle.exact_json.specs.declared.fault.ReadFault.{ReadFault}
-use Rattle.exact_json.specs.declared.fault.ReadFault.TheVariants.{NotJson, NoMemory}
+use Rattle.exact_json.specs.Parsing.{told_as, told, told_string, told_elements, told_entry, told_entries, items_in, more_items_in}
 use Rattle.exact_json.proofs.Joining.{joined_assoc}
-
--- a fault that is handed on
-pub fails : (fault : ReadFault) (P Q : Type 0) → Tells fault P → (P → Q) → Tells fault Q
-fails NotJson P Q h k = k h
-fails NoMemory P Q h k = tt
 
 -- what stands for something was read
 unread : {A B : Type 0} (value : A → B) (flaws : A → Flaws) (before : Flaws) (o : Option (A × List ℕ)) → told_as value flaws before o ≡ None → o ≡ None
@@ -41,7 +36,7 @@ was_read {A} {B} value flaws before (Some a) b now after e =
 module _ {V M J : Type 0} (close : ℕ) (end : M) (next : List ℕ → V → List ℕ → M → M) (item : Parse V) (value : V → J) (flaws : V → Flaws) (items : M → List J) (all_flaws : M → Flaws) where
   -- what is read where some items are known
   abbrev pub behind : List J → Flaws → ℕ → List ℕ → Option (List J × Flaws × List ℕ)
-  behind js before count rest = option_map (λ p. (js ++ items p.0, joined before (all_flaws p.0), p.1)) (more_at close end next item count rest)
+  behind js before count rest = option_map (λ p. (js ++ items p.0, joined before (all_flaws p.0), p.1)) (more_at is_space close end next item count rest)
 
   -- how the constructors are counted
   pub record Counts : Type 0 where
@@ -61,7 +56,7 @@ module _ {V M J : Type 0} (close : ℕ) (end : M) (next : List ℕ → V → Lis
 
   turned : Counts → (js : List J) (before : Flaws) (count less : ℕ) (rest ys xs : List ℕ) (a : V) (after : List ℕ) → count ≡ suc less → past close rest ≡ None → past 44 rest ≡ Some ys → xs ≡ past_gap ys → item xs ≡ Some (a, after)
       → behind js before count rest ≡ behind (js ++ value a ∷ []) (joined before (flaws a)) less (past_gap after)
-  turned c js before count less rest ys xs a after n e f g h = rw (n, e, f, ← g, h) (by (more_at close end next item less (past_gap after)))
+  turned c js before count less rest ys xs a after n e f g h = rw (n, e, f, ← g, h) (by (more_at is_space close end next item less (past_gap after)))
     where
       by : (o : Option (M × List ℕ)) → option_map {U = List J × Flaws × List ℕ} (λ p. (js ++ items p.0, joined before (all_flaws p.0), p.1)) (option_map {T = V × List ℕ × M × List ℕ} {U = M × List ℕ} (λ i. (next (gap_of ys) i.0 i.1 i.2, i.3)) (option_map {T = M × List ℕ} {U = V × List ℕ × M × List ℕ} (λ m. (a, gap_of after, m.0, m.1)) o)) ≡ option_map {U = List J × Flaws × List ℕ} (λ p. ((js ++ value a ∷ []) ++ items p.0, joined (joined before (flaws a)) (all_flaws p.0), p.1)) o
       by None = refl
@@ -84,19 +79,19 @@ module _ {V M J : Type 0} (close : ℕ) (end : M) (next : List ℕ → V → Lis
       pub first_flaws : (a : V) (gap : List ℕ) (m : M) → whole_flaws (first a gap m) ≡ joined (flaws a) (all_flaws m)
 
     started : First → (before : Flaws) (xs : List ℕ) (a : V) (after : List ℕ) (count : ℕ) → past close xs ≡ None → item xs ≡ Some (a, after) → count ≡ length (past_gap after)
-        → told_as all_items whole_flaws before (all_at close none first end next item xs) ≡ behind (value a ∷ []) (joined before (flaws a)) count (past_gap after)
-    started c before xs a after count e h k = rw (e, h, k) (by (more_at close end next item (length (past_gap after)) (past_gap after)))
+        → told_as all_items whole_flaws before (all_at is_space close none first end next item xs) ≡ behind (value a ∷ []) (joined before (flaws a)) count (past_gap after)
+    started c before xs a after count e h k = rw (e, h, k) (by (more_at is_space close end next item (length (past_gap after)) (past_gap after)))
       where
         by : (o : Option (M × List ℕ)) → option_map {U = List J × Flaws × List ℕ} (λ p. (all_items p.0, joined before (whole_flaws p.0), p.1)) (option_map {T = V × List ℕ × M × List ℕ} {U = E × List ℕ} (λ i. (first i.0 i.1 i.2, i.3)) (option_map {T = M × List ℕ} {U = V × List ℕ × M × List ℕ} (λ m. (a, gap_of after, m.0, m.1)) o)) ≡ option_map {U = List J × Flaws × List ℕ} (λ p. ((value a ∷ []) ++ items p.0, joined (joined before (flaws a)) (all_flaws p.0), p.1)) o
         by None = refl
         by (Some m) = rw (c.first_items, c.first_flaws, joined_assoc) refl
 
     started_as : First → (more : List J) (before now : Flaws) (xs : List ℕ) (a : V) (j : J) (after left : List ℕ) (count : ℕ) → past close xs ≡ None → item xs ≡ Some (a, after) → value a ≡ j → joined before (flaws a) ≡ now → more ≡ j ∷ [] → left ≡ past_gap after → count ≡ length left
-        → told_as all_items whole_flaws before (all_at close none first end next item xs) ≡ behind more now count left
+        → told_as all_items whole_flaws before (all_at is_space close none first end next item xs) ≡ behind more now count left
     started_as c more before now xs a j after left count e h u v k l n = rw (k, l, ← u, ← v) (started c before xs a after count e h (n ∙ ap length l))
 
     pub starts : First → (more : List J) (before now : Flaws) (xs : List ℕ) (j : J) (after left : List ℕ) (count : ℕ) → past close xs ≡ None → told_as value flaws before (item xs) ≡ Some (j, now, after) → more ≡ j ∷ [] → left ≡ past_gap after → count ≡ length left
-        → told_as all_items whole_flaws before (all_at close none first end next item xs) ≡ behind more now count left
+        → told_as all_items whole_flaws before (all_at is_space close none first end next item xs) ≡ behind more now count left
     starts c more before now xs j after left count e h k l n =
         let read = was_read value flaws before (item xs) j now after h in
         started_as c more before now xs read.part j after left count e read.is_read read.is_value read.is_now k l n

@@ -1,5 +1,5 @@
 -- How a call of the parser answers: as the function on lists that it follows.
-use Rattle.std.specs.Prelude.{◌≡◌, ℕ, List, [], ◌∷◌, Bool, true, Option, Some, None, Result, Ok, Err, MatchOption}
+use Rattle.std.specs.Prelude.{ℕ, List, [], ◌∷◌, Bool, true, Option, Some, None, Result, Ok, Err}
 use Rattle.std.specs.Option.{option_map}
 use Rattle.exact_num.specs.Decimal.{Decimal}
 use Rattle.exact_num.specs.declared.fault.NumFault.{NumFault}
@@ -7,22 +7,6 @@ use Rattle.exact_num.specs.declared.fault.NumFault.TheVariants.{NotNumber, TooWi
 use Rattle.json_grammar.specs.Grammar.{Written, Elements, no_elements, first_element, MoreElements, end_elements, next_element, Entry, Entries}
 use Rattle.json_tree.specs.Json.{Json, null, number}
 use Rattle.exact_json.specs.Meaning.{Flaws, joined, lone_flaw, wide_flaw, tree_of, flaws_of, elements_flaws, pair_in, entry_flaws, pairs_in, entries_flaws}
-use Rattle.exact_json.specs.declared.fault.ReadFault.{ReadFault}
-use Rattle.exact_json.specs.declared.fault.ReadFault.TheVariants.{NotJson, NoMemory}
-
--- the same value is found, or none
-abbrev pub Finds : {A B : Type 0} → (A → B) → Option A → Option B → Type 0
-Finds view found defined = MatchOption found (defined ≡ None) (λ a. defined ≡ Some (view a))
-
--- out of memory says nothing
-abbrev pub Tells : ReadFault → Type 0 → Type 0
-Tells NotJson P = P
-Tells NoMemory P = Unit {0}
-
--- the same value is read, or none
-abbrev pub Reads : {A B : Type 0} → (A → B) → Result A ReadFault → Option B → Type 0
-Reads view (Ok a) defined = defined ≡ Some (view a)
-Reads view (Err fault) defined = Tells fault (defined ≡ None)
 
 -- what is read stands for a value, and adds its flaws to those that were seen before
 abbrev pub told_as : {A B : Type 0} → (A → B) → (A → Flaws) → Flaws → Option (A × List ℕ) → Option (B × Flaws × List ℕ)

@@ -8,14 +8,16 @@ ghost use Rattle.exact_json.specs.Brackets.{is_too_deep};
 ghost use Rattle.exact_json.specs.Judging.{Gives, judged_text, fault_or, fault_of};
 ghost use Rattle.exact_json.specs.declared.fault.DocFault.TheVariants.{TooDeep, NotJson};
 ghost use Rattle.exact_json.specs.Meaning.{Answers};
-ghost use Rattle.exact_json.specs.Parsing.{Reads, told_text};
+ghost use Rattle.byte_parsing.specs.Outcome.{Reads};
+ghost use Rattle.exact_json.specs.Parsing.{told_text};
 ghost use Rattle.exact_json.specs.Shown.{shown};
 
 use crate::brackets::is_too_deep;
-use crate::fault::{DocFault, ReadFault};
+use crate::fault::DocFault;
 use crate::scan::past_gap;
 use crate::seen::Seen;
 use crate::values::read_value;
+use byte_parsing::{Absent, Refused};
 use json_lines::LINE_LIMIT;
 use json_tree::Tree;
 use std::alloc::Global;
@@ -46,8 +48,8 @@ fn read_text(alloc: Global, line: &[u8]) -> Result<Tree, DocFault>
     let mut noted = Seen::new();
     match read_document(alloc, line, &mut noted) {
         Ok(tree) => unless_flawed(tree, &noted),
-        Err(ReadFault::NotJson) => Err(why_not_read(line)),
-        Err(ReadFault::NoMemory) => Err(DocFault::NoMemory),
+        Err(Refused::Fault(Absent)) => Err(why_not_read(line)),
+        Err(Refused::NoMemory) => Err(DocFault::NoMemory),
     }
 }
 
@@ -70,12 +72,12 @@ fn why_not_read(line: &[u8]) -> DocFault
     DocFault::NotJson
 }
 
-fn read_document(alloc: Global, line: &[u8], noted: &mut Seen) -> Result<Tree, ReadFault>
+fn read_document(alloc: Global, line: &[u8], noted: &mut Seen) -> Result<Tree, Refused<Absent>>
     ensures told { Reads (λ tree. (view tree, shown noted.new)) result (told_text (shown noted.old) (document_at line.now)) }
 {
     let (tree, behind) = read_value(alloc, past_gap(line), DEPTH_LIMIT, noted)?;
     if !past_gap(behind).is_empty() {
-        return Err(ReadFault::NotJson);
+        return Err(Refused::Fault(Absent));
     }
     Ok(tree)
 }

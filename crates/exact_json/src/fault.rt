@@ -1,10 +1,7 @@
 //! The faults of lines.
 
 ghost use Rattle.std.specs.Prelude.{◌≡◌};
-ghost use Rattle.exact_json.specs.declared.fault.ReadFault.TheVariants.{NoMemory as OutOfMemory};
 ghost use Rattle.exact_json.specs.Faults.{name_of};
-
-use std::alloc::{AllocError, AllocFailed};
 
 /// Why a line has no tree: the first of its faults, in this order, each a property of the whole line.
 #[derive(Clone, Copy, PartialEq, Eq, Debug, Drop)]
@@ -42,30 +39,5 @@ impl DocFault {
             DocFault::NumberTooWide => "NumberTooWide",
             DocFault::NoMemory => "NoMemory",
         }
-    }
-}
-
-/// Why the parser read nothing.
-#[derive(Clone, Copy, PartialEq, Eq, Debug, Drop)]
-pub(crate) enum ReadFault {
-    /// No such part of a text, of at most so many open arrays and objects, stands there.
-    NotJson,
-    /// There was no memory for its tree.
-    NoMemory,
-}
-
-impl From<AllocError> for ReadFault {
-    ghost from_gives = { λ _ fault. fault ≡ OutOfMemory };
-
-    fn from(_error: AllocError) -> ReadFault {
-        ReadFault::NoMemory
-    }
-}
-
-impl<T: Drop> From<AllocFailed<T>> for ReadFault {
-    ghost from_gives = { λ _ fault. fault ≡ OutOfMemory };
-
-    fn from(_error: AllocFailed<T>) -> ReadFault {
-        ReadFault::NoMemory
     }
 }

@@ -13,7 +13,7 @@
 //! | `numbers` | numbers |
 //! | `strings` | strings |
 //! | `seen` | the flaws that were noted |
-//! | `scan` | white space, single bytes, words |
+//! | `scan` | white space |
 //! | `laws` | what a line is, once and always; canonical texts |
 //!
 //! The lines of an input come from `json_lines`, whose names are passed on.

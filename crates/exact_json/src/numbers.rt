@@ -3,7 +3,8 @@
 ghost use Rattle.std.specs.Prelude.{◌≡◌};
 ghost use Rattle.json_grammar.specs.Reading.{number_at};
 ghost use Rattle.json_tree.specs.View.{view};
-ghost use Rattle.exact_json.specs.Parsing.{Finds, told};
+ghost use Rattle.byte_parsing.specs.Outcome.{Finds};
+ghost use Rattle.exact_json.specs.Parsing.{told};
 ghost use Rattle.exact_json.specs.Shown.{shown};
 
 use crate::seen::Seen;

@@ -1,8 +1,7 @@
-//! The bytes between the parts of a text.
+//! White space between the parts of a text.
 
 ghost use Rattle.std.specs.Prelude.{◌≡◌};
-ghost use Rattle.json_grammar.specs.Reading.{is_space, past, past_word, past_gap};
-ghost use Rattle.exact_json.specs.Parsing.{Finds};
+ghost use Rattle.json_grammar.specs.Reading.{is_space, past_gap};
 
 /// The bytes behind the white space in front (RFC 8259, section 2).
 #[inline(always)]
@@ -24,25 +23,4 @@ fn is_space(byte: u8) -> bool
     ensures { result ≡ is_space byte }
 {
     byte <= b' ' && matches!(byte, b' ' | b'\t' | b'\n' | b'\r')
-}
-
-/// The bytes behind one byte.
-pub fn after_byte(text: &[u8], byte: u8) -> Option<&[u8]>
-    ensures { Finds (λ rest. rest.now) result (past byte text.now) }
-{
-    match text {
-        [first, behind @ ..] if *first == byte => Some(behind),
-        _ => None,
-    }
-}
-
-/// The bytes behind a word.
-pub fn after_word<'a>(text: &'a [u8], word: &[u8]) -> Option<&'a [u8]>
-    ensures { Finds (λ rest. rest.now) result (past_word word.now text.now) }
-{
-    let mut rest = text;
-    for byte in word {
-        rest = after_byte(rest, *byte)?;
-    }
-    Some(rest)
 }

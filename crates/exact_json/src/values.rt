@@ -9,15 +9,16 @@ ghost use Rattle.json_tree.specs.View.{view, seen};
 ghost use Rattle.json_grammar.specs.Reading.{value_at, nested, text_at, array_at, object_at, elements_at, entry_at, entries_at};
 ghost use Rattle.vs_bytes.specs.Names.{repeats};
 ghost use Rattle.exact_json.specs.Meaning.{object_or_null};
-ghost use Rattle.exact_json.specs.Parsing.{Reads, told, told_elements, told_entry, told_entries};
+ghost use Rattle.byte_parsing.specs.Outcome.{Reads};
+ghost use Rattle.exact_json.specs.Parsing.{told, told_elements, told_entry, told_entries};
 ghost use Rattle.exact_json.specs.Shown.{shown};
 
 use crate::document::DEPTH_LIMIT;
-use crate::fault::ReadFault;
 use crate::numbers::read_number;
-use crate::scan::{after_byte, after_word, past_gap};
+use crate::scan::past_gap;
 use crate::seen::Seen;
 use crate::strings::read_string;
+use byte_parsing::{Absent, Refused, after_byte, after_bytes};
 use json_tree::{Items, Members, Tree};
 use std::alloc::Global;
 use vs_bytes::Text;
@@ -36,29 +37,29 @@ pub(crate) fn read_value<'a>(
     text: &'a [u8],
     depth: u32,
     noted: &mut Seen,
-) -> Result<(Tree, &'a [u8]), ReadFault>
+) -> Result<(Tree, &'a [u8]), Refused<Absent>>
     ensures told { Reads (λ x. (view x.0, shown noted.new, x.1.now)) result (told (shown noted.old) (value_at depth text.now)) }
 {
     match text {
-        [] => Err(ReadFault::NotJson),
+        [] => Err(Refused::Fault(Absent)),
         [b'"', rest @ ..] => read_text(alloc, rest, noted),
         [b'[', rest @ ..] => read_array(alloc, rest, depth, noted),
         [b'{', rest @ ..] => read_object(alloc, rest, depth, noted),
-        [b'n', ..] => match after_word(text, b"null") {
+        [b'n', ..] => match after_bytes(text, b"null") {
             Some(rest) => Ok((Tree::Null, rest)),
-            None => Err(ReadFault::NotJson),
+            None => Err(Refused::Fault(Absent)),
         },
-        [b't', ..] => match after_word(text, b"true") {
+        [b't', ..] => match after_bytes(text, b"true") {
             Some(rest) => Ok((Tree::Bool(true), rest)),
-            None => Err(ReadFault::NotJson),
+            None => Err(Refused::Fault(Absent)),
         },
-        [b'f', ..] => match after_word(text, b"false") {
+        [b'f', ..] => match after_bytes(text, b"false") {
             Some(rest) => Ok((Tree::Bool(false), rest)),
-            None => Err(ReadFault::NotJson),
+            None => Err(Refused::Fault(Absent)),
         },
         _ => match read_number(text, noted) {
             Some((tree, rest)) => Ok((tree, rest)),
-            None => Err(ReadFault::NotJson),
+            None => Err(Refused::Fault(Absent)),
         },
     }
 }
@@ -69,7 +70,7 @@ fn read_text<'a>(
     alloc: Global,
     text: &'a [u8],
     noted: &mut Seen,
-) -> Result<(Tree, &'a [u8]), ReadFault>
+) -> Result<(Tree, &'a [u8]), Refused<Absent>>
     ensures told { Reads (λ x. (view x.0, shown noted.new, x.1.now)) result (told (shown noted.old) (text_at text.now)) }
 {
     let (text, rest) = read_string(alloc, text, noted)?;
@@ -83,11 +84,11 @@ fn read_array<'a>(
     text: &'a [u8],
     depth: u32,
     noted: &mut Seen,
-) -> Result<(Tree, &'a [u8]), ReadFault>
+) -> Result<(Tree, &'a [u8]), Refused<Absent>>
     ensures told { Reads (λ x. (view x.0, shown noted.new, x.1.now)) result (told (shown noted.old) (array_at (nested depth).0 text.now)) }
 {
     if depth == 0 {
-        return Err(ReadFault::NotJson);
+        return Err(Refused::Fault(Absent));
     }
     let (trees, rest) = read_elements(alloc, past_gap(text), depth - 1, noted)?;
     Ok((array_tree(trees), rest))
@@ -105,7 +106,7 @@ fn read_elements<'a>(
     text: &'a [u8],
     depth: u32,
     noted: &mut Seen,
-) -> Result<(Vec<Tree>, &'a [u8]), ReadFault>
+) -> Result<(Vec<Tree>, &'a [u8]), Refused<Absent>>
     ensures told { Reads (λ x. (map view x.0.items, shown noted.new, x.1.now)) result (told_elements (shown noted.old) (elements_at (value_at depth) text.now)) }
 {
     if let Some(rest) = after_byte(text, b']') {
@@ -121,13 +122,13 @@ fn read_elements<'a>(
             return Ok((trees, behind));
         }
         let Some(next) = after_byte(rest, b',') else {
-            return Err(ReadFault::NotJson);
+            return Err(Refused::Fault(Absent));
         };
         let (tree, behind) = read_value(alloc, past_gap(next), depth, noted)?;
         trees.push(tree)?;
         rest = past_gap(behind);
     }
-    Err(ReadFault::NotJson)
+    Err(Refused::Fault(Absent))
 }
 
 #[cycle(parser)]
@@ -137,11 +138,11 @@ fn read_object<'a>(
     text: &'a [u8],
     depth: u32,
     noted: &mut Seen,
-) -> Result<(Tree, &'a [u8]), ReadFault>
+) -> Result<(Tree, &'a [u8]), Refused<Absent>>
     ensures told { Reads (λ x. (view x.0, shown noted.new, x.1.now)) result (told (shown noted.old) (object_at (nested depth).1 text.now)) }
 {
     if depth == 0 {
-        return Err(ReadFault::NotJson);
+        return Err(Refused::Fault(Absent));
     }
     let (pairs, rest) = read_entries(alloc, past_gap(text), depth - 1, noted)?;
     let (tree, repeated) = object_tree(pairs);
@@ -177,7 +178,7 @@ fn read_entries<'a>(
     text: &'a [u8],
     depth: u32,
     noted: &mut Seen,
-) -> Result<(Vec<(Text, Tree)>, &'a [u8]), ReadFault>
+) -> Result<(Vec<(Text, Tree)>, &'a [u8]), Refused<Absent>>
     ensures told { Reads (λ x. (map seen x.0.items, shown noted.new, x.1.now)) result (told_entries (shown noted.old) (entries_at (value_at depth) text.now)) }
 {
     if let Some(rest) = after_byte(text, b'}') {
@@ -193,13 +194,13 @@ fn read_entries<'a>(
             return Ok((pairs, behind));
         }
         let Some(next) = after_byte(rest, b',') else {
-            return Err(ReadFault::NotJson);
+            return Err(Refused::Fault(Absent));
         };
         let (pair, behind) = read_entry(alloc, past_gap(next), depth, noted)?;
         pairs.push(pair)?;
         rest = past_gap(behind);
     }
-    Err(ReadFault::NotJson)
+    Err(Refused::Fault(Absent))
 }
 
 // A name, a colon and a value.
@@ -210,15 +211,15 @@ fn read_entry<'a>(
     text: &'a [u8],
     depth: u32,
     noted: &mut Seen,
-) -> Result<((Text, Tree), &'a [u8]), ReadFault>
+) -> Result<((Text, Tree), &'a [u8]), Refused<Absent>>
     ensures told { Reads (λ x. (seen x.0, shown noted.new, x.1.now)) result (told_entry (shown noted.old) (entry_at (value_at depth) text.now)) }
 {
     let Some(inside) = after_byte(text, b'"') else {
-        return Err(ReadFault::NotJson);
+        return Err(Refused::Fault(Absent));
     };
     let (name, behind) = read_string(alloc, inside, noted)?;
     let Some(rest) = after_byte(past_gap(behind), b':') else {
-        return Err(ReadFault::NotJson);
+        return Err(Refused::Fault(Absent));
     };
     let (tree, rest) = read_value(alloc, past_gap(rest), depth, noted)?;
     Ok(((name, tree), rest))
