@@ -10,10 +10,10 @@ use Rattle.byte_parsing.proofs.Runs.{split_run, front_passes}
 use Rattle.byte_parsing.proofs.WholeNumbers.{whole_is}
 use Rattle.byte_parsing.proofs.Words.{back_ends}
 use Rattle.json_strings.specs.Pieces.{pieces_spelled}
-use Rattle.path_parsing.specs.Grammar.{StepSyntax, dotted, quoted, indexed, starred, step_bytes, steps_bytes, path_bytes, IsWellStep, AreWellSteps, IsPathBefore}
+use Rattle.path_parsing.specs.Grammar.{StepSyntax, dotted, indexed, starred, step_bytes, steps_bytes, path_bytes, IsWellStep, AreWellSteps, IsPathBefore}
 use Rattle.path_parsing.specs.Reading.{name_at, string_step, is_index, index_at, inside_at, in_brackets, bracket_at, step_at, steps_at, path_at}
 use Rattle.path_parsing.proofs.Lengths.{path_length}
-use Rattle.path_parsing.proofs.Strings.{string_sound}
+use Rattle.path_parsing.proofs.Strings.{paired_sound}
 
 -- Names.
 
@@ -41,10 +41,9 @@ pub record IsClosing (xs : List ℕ) (read : StepSyntax × List ℕ) : Type 0 wh
 
 string_closing : (xs : List ℕ) → Holds (IsClosing (34 ∷ xs)) (string_step xs)
 string_closing xs =
-    holds_then _ (IsClosing (34 ∷ xs)) _ _ (string_sound xs) (λ read p.
-    holds_if (IsClosing (34 ∷ xs)) _ _ _ (λ _. holds_none _) (λ e. holds_some (IsClosing (34 ∷ xs)) (quoted read.0, read.1) (record {
-      closing = λ after f. (ap (λ ys. 91 ∷ (34 ∷ ys)) (p.0 ∙ ap (λ ys. pieces_spelled read.0 ys) f), (p.1, e));
-    })))
+    holds_map _ (IsClosing (34 ∷ xs)) _ _ (paired_sound xs) (λ read p. record {
+      closing = λ after f. (ap (λ ys. 91 ∷ (34 ∷ ys)) (p.0 ∙ ap (λ ys. pieces_spelled read.0 ys) f), (p.1, p.2));
+    })
 
 index_closing : (xs : List ℕ) → Holds (IsClosing xs) (index_at xs)
 index_closing xs =

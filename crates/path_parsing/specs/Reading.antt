@@ -5,8 +5,7 @@ use Rattle.std.specs.Option.{option_map}
 use Rattle.byte_parsing.specs.Bytes.{quote, dollar, star, dot, open_bracket, close_bracket}
 use Rattle.byte_parsing.specs.Parse.{Parse, and_then, front, back, past}
 use Rattle.byte_parsing.specs.Words.{is_digit, is_whole, is_name, is_name_byte}
-use Rattle.json_strings.specs.Meaning.{lone_of}
-use Rattle.json_strings.specs.Reading.{string_at}
+use Rattle.json_strings.specs.Reading.{paired_string_at}
 use Rattle.path_parsing.specs.Grammar.{StepSyntax, dotted, quoted, indexed, starred, PathSyntax}
 use Rattle.path_parsing.specs.Limits.{most_steps, most_bytes, most_digits}
 
@@ -16,7 +15,7 @@ name_at xs = if is_name (front is_name_byte xs) then Some (dotted (front is_name
 
 -- after a quote
 abbrev pub string_step : Parse StepSyntax
-string_step xs = and_then (string_at xs) (λ r. if lone_of r.0 then None else Some (quoted r.0, r.1))
+string_step xs = option_map (λ r. (quoted r.0, r.1)) (paired_string_at xs)
 
 -- whether digits are an index
 abbrev pub is_index : List ℕ → Bool

@@ -11,8 +11,8 @@ ghost use Rattle.path_parsing.specs.Limits.{most_steps};
 ghost use Rattle.path_parsing.specs.Reading.{name_at, string_step, inside_at, bracket_at, begins_step, step_at, steps_at};
 
 use crate::index::read_index;
-use byte_parsing::{after_byte, split_name, starts_name};
-use json_strings::{QuotedFault, read_quoted};
+use byte_parsing::{Absent, Refused, after_byte, split_name, starts_name};
+use json_strings::read_text;
 use query_tree::{Step, Steps};
 use smallvec::SmallVec;
 use std::alloc::Global;
@@ -39,16 +39,8 @@ fn read_name(alloc: Global, text: &[u8]) -> Result<(Step, &[u8]), Refused<Absent
 fn read_string(alloc: Global, text: &[u8]) -> Result<(Step, &[u8]), Refused<Absent>>
     ensures { Reads (λ x. (x.0, x.1.now)) result (read_as step_of (string_step text.now)) }
 {
-    match read_quoted(alloc, text) {
-        Ok(quoted) => {
-            if quoted.lone {
-                return Err(Refused::Fault(Absent));
-            }
-            Ok((Step::Field(quoted.text), quoted.rest))
-        }
-        Err(QuotedFault::NotString) => Err(Refused::Fault(Absent)),
-        Err(QuotedFault::NoMemory) => Err(Refused::NoMemory),
-    }
+    let (name, rest) = read_text(alloc, text)?;
+    Ok((Step::Field(name), rest))
 }
 
 // After an opening bracket, up to the closing one.
