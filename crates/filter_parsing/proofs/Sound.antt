@@ -13,11 +13,11 @@ use Rattle.byte_parsing.proofs.Runs.{split_run}
 use Rattle.byte_parsing.proofs.Words.{gap_front, gap_split, whole_sound, word_value_sound}
 use Rattle.query_tree.specs.declared.filter.Relation.{Relation}
 use Rattle.path_parsing.specs.Grammar.{path_bytes}
-use Rattle.filter_parsing.specs.Grammar.{LiteralSyntax, null_word, truth_word, string, TestSyntax, exists_word, missing_word, FilterSyntax, both, either, relation_text, literal_bytes, test_bytes, filter_bytes, IsWellLiteral, IsWellTest, IsWell, looseness, nesting, terms}
+use Rattle.filter_parsing.specs.Grammar.{LiteralSyntax, null_word, truth_word, TestSyntax, exists_word, missing_word, FilterSyntax, both, either, relation_text, literal_bytes, test_bytes, filter_bytes, IsWellLiteral, IsWellTest, IsWell, looseness, nesting, terms}
 use Rattle.filter_parsing.specs.Reading.{or_equal, relation_at, number_from, number_at, string_literal, literal_at, related_at, test_at, term_at, are_few, more_at, joined_at, conj_at, filter_by, denied_at, bracketed_at, unit_by, unit_at, whole, filter_at}
 use Rattle.filter_parsing.proofs.Numbers.{read_number}
 use Rattle.path_parsing.proofs.Sound.{path_sound}
-use Rattle.path_parsing.proofs.Strings.{string_sound as string_is}
+use Rattle.path_parsing.proofs.Strings.{paired_sound}
 
 -- Relations.
 
@@ -57,9 +57,7 @@ number_sound xs = by (read_of (front is_numeric xs)) refl
     by (Err fault) e = holds_none _
 
 string_sound : (xs : List ℕ) → Holds (IsLiteral (34 ∷ xs)) (string_literal xs)
-string_sound xs =
-    holds_then _ _ _ _ (string_is xs) (λ read p.
-    holds_if (IsLiteral (34 ∷ xs)) _ _ _ (λ _. holds_none _) (λ e. holds_some (IsLiteral (34 ∷ xs)) (string read.0, read.1) (ap (λ ys. 34 ∷ ys) p.0, (p.1, e))))
+string_sound xs = holds_map _ (IsLiteral (34 ∷ xs)) _ _ (paired_sound xs) (λ read p. (ap (λ ys. 34 ∷ ys) p.0, (p.1, p.2)))
 
 literal_sound : (xs : List ℕ) → Holds (IsLiteral xs) (literal_at xs)
 unfolding literal_at

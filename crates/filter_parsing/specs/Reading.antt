@@ -9,8 +9,7 @@ use Rattle.byte_parsing.specs.Words.{is_numeric, gap_of, past_gap, past_whole_wo
 use Rattle.exact_num.specs.Decimal.{Decimal}
 use Rattle.exact_num.specs.Reading.{read_of}
 use Rattle.exact_num.specs.declared.fault.NumFault.{NumFault}
-use Rattle.json_strings.specs.Meaning.{lone_of}
-use Rattle.json_strings.specs.Reading.{string_at}
+use Rattle.json_strings.specs.Reading.{paired_string_at}
 use Rattle.query_tree.specs.declared.filter.Relation.{Relation}
 use Rattle.query_tree.specs.declared.filter.Relation.TheVariants.{Equal, NotEqual, Less, AtMost, Greater, AtLeast}
 use Rattle.path_parsing.specs.Reading.{path_at}
@@ -43,7 +42,7 @@ number_at xs = number_from (front is_numeric xs) (back is_numeric xs) (read_of (
 
 -- after a quote
 abbrev pub string_literal : Parse LiteralSyntax
-string_literal xs = and_then (string_at xs) (λ r. if lone_of r.0 then None else Some (string r.0, r.1))
+string_literal xs = option_map (λ r. (string r.0, r.1)) (paired_string_at xs)
 
 unfoldable pub literal_at : Parse LiteralSyntax
 literal_at [] = None

@@ -8,7 +8,7 @@ ghost use Rattle.filter_parsing.specs.Grammar.{literal_of};
 ghost use Rattle.filter_parsing.specs.Reading.{literal_at, number_at, string_literal};
 
 use byte_parsing::{after_word, split_number};
-use json_strings::{QuotedFault, read_quoted};
+use json_strings::read_text;
 use json_tree::Tree;
 use std::alloc::Global;
 use vs_bytes::{Absent, Refused};
@@ -28,16 +28,8 @@ fn read_number(text: &[u8]) -> Result<(Tree, &[u8]), Refused<Absent>>
 fn read_string<'a>(alloc: Global, text: &'a [u8]) -> Result<(Tree, &'a [u8]), Refused<Absent>>
     ensures { Reads (λ x. (view x.0, x.1.now)) result (read_as literal_of (string_literal text.now)) }
 {
-    match read_quoted(alloc, text) {
-        Ok(quoted) => {
-            if quoted.lone {
-                return Err(Refused::Fault(Absent));
-            }
-            Ok((Tree::Text(quoted.text), quoted.rest))
-        }
-        Err(QuotedFault::NotString) => Err(Refused::Fault(Absent)),
-        Err(QuotedFault::NoMemory) => Err(Refused::NoMemory),
-    }
+    let (text, rest) = read_text(alloc, text)?;
+    Ok((Tree::Text(text), rest))
 }
 
 /// Reads a literal from the front of `text`, and gives the bytes after it.

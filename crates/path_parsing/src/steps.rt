@@ -11,7 +11,7 @@ ghost use Rattle.path_parsing.specs.Limits.{most_steps};
 ghost use Rattle.path_parsing.specs.Reading.{name_at, string_step, inside_at, bracket_at, begins_step, step_at, steps_at};
 
 use crate::index::read_index;
-use byte_parsing::{Absent, Refused, after_byte, split_name, starts_name};
+use byte_parsing::{after_byte, split_name, starts_name};
 use json_strings::read_text;
 use query_tree::{Step, Steps};
 use smallvec::SmallVec;
