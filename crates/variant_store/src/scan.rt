@@ -16,7 +16,7 @@ use std::alloc::Global;
 /// However the walk over the documents ends, the lines of those before are written, unless a write is
 /// refused or there is no memory for a line of the output. Where there is no memory for a line of the
 /// input or its tree, the answer is `Err(Stop::Input(InputFault::NoMemory))`, and all lines before it
-/// are written.
+/// are written; the status of the call alone doesn't tell this from a write without memory.
 pub fn scan<I: Source, O: Sink>(
     alloc: Global,
     query: &Query,
