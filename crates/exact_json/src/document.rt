@@ -5,10 +5,10 @@ ghost use Rattle.json_tree.specs.Order.{IsOrdered};
 ghost use Rattle.json_tree.specs.View.{view};
 ghost use Rattle.json_grammar.specs.Reading.{document_at};
 ghost use Rattle.exact_json.specs.Brackets.{is_too_deep};
-ghost use Rattle.exact_json.specs.Judging.{Gives, judged_text, fault_or, fault_of};
+ghost use Rattle.exact_json.specs.Judging.{Makes, judged_text, fault_or, fault_of};
 ghost use Rattle.exact_json.specs.declared.fault.DocFault.TheVariants.{TooDeep, NotJson};
 ghost use Rattle.exact_json.specs.Meaning.{Answers};
-ghost use Rattle.byte_parsing.specs.Outcome.{Reads};
+ghost use Rattle.vs_bytes.specs.Outcome.{Reads};
 ghost use Rattle.exact_json.specs.Parsing.{told_text};
 ghost use Rattle.exact_json.specs.Shown.{shown};
 
@@ -17,10 +17,10 @@ use crate::fault::DocFault;
 use crate::scan::past_gap;
 use crate::seen::Seen;
 use crate::values::read_value;
-use byte_parsing::{Absent, Refused};
 use json_lines::LINE_LIMIT;
 use json_tree::Tree;
 use std::alloc::Global;
+use vs_bytes::{Absent, Refused};
 
 // The greatest number of arrays and objects that are open at once.
 pub(crate) const DEPTH_LIMIT: u32 = 64;
@@ -43,7 +43,7 @@ pub fn read_line(alloc: Global, line: &[u8]) -> Result<Tree, DocFault>
 
 // Of a line that is UTF-8 and not too long.
 fn read_text(alloc: Global, line: &[u8]) -> Result<Tree, DocFault>
-    ensures { Gives view result (judged_text line.now) }
+    ensures { Makes view result (judged_text line.now) }
 {
     let mut noted = Seen::new();
     match read_document(alloc, line, &mut noted) {
@@ -54,7 +54,7 @@ fn read_text(alloc: Global, line: &[u8]) -> Result<Tree, DocFault>
 }
 
 fn unless_flawed(tree: Tree, noted: &Seen) -> Result<Tree, DocFault>
-    ensures { Gives view result (fault_or (view tree) (fault_of (shown noted.now))) }
+    ensures { Makes view result (fault_or (view tree) (fault_of (shown noted.now))) }
 {
     match noted.fault() {
         Some(fault) => Err(fault),

@@ -3,7 +3,7 @@
 ghost use Rattle.std.specs.Prelude.{◌≡◌};
 ghost use Rattle.json_grammar.specs.Reading.{number_at};
 ghost use Rattle.json_tree.specs.View.{view};
-ghost use Rattle.byte_parsing.specs.Outcome.{Finds};
+ghost use Rattle.vs_bytes.specs.Outcome.{Finds};
 ghost use Rattle.exact_json.specs.Parsing.{told};
 ghost use Rattle.exact_json.specs.Shown.{shown};
 

@@ -2,15 +2,14 @@
 
 ghost use Rattle.std.specs.Prelude.{◌≡◌};
 ghost use Rattle.json_strings.specs.Reading.{quoted_at};
-ghost use Rattle.byte_parsing.specs.Outcome.{Reads};
+ghost use Rattle.vs_bytes.specs.Outcome.{Reads};
 ghost use Rattle.exact_json.specs.Parsing.{told_string};
 ghost use Rattle.exact_json.specs.Shown.{shown};
 
 use crate::seen::Seen;
-use byte_parsing::{Absent, Refused};
 use json_strings::read_quoted;
 use std::alloc::Global;
-use vs_bytes::Text;
+use vs_bytes::{Absent, Refused, Text};
 
 /// Reads the rest of a string from its opening quote on, and gives the bytes behind its closing one.
 #[inline(always)]

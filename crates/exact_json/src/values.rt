@@ -9,7 +9,7 @@ ghost use Rattle.json_tree.specs.View.{view, seen};
 ghost use Rattle.json_grammar.specs.Reading.{value_at, nested, text_at, array_at, object_at, elements_at, entry_at, entries_at};
 ghost use Rattle.vs_bytes.specs.Names.{repeats};
 ghost use Rattle.exact_json.specs.Meaning.{object_or_null};
-ghost use Rattle.byte_parsing.specs.Outcome.{Reads};
+ghost use Rattle.vs_bytes.specs.Outcome.{Reads};
 ghost use Rattle.exact_json.specs.Parsing.{told, told_elements, told_entry, told_entries};
 ghost use Rattle.exact_json.specs.Shown.{shown};
 
@@ -18,10 +18,10 @@ use crate::numbers::read_number;
 use crate::scan::past_gap;
 use crate::seen::Seen;
 use crate::strings::read_string;
-use byte_parsing::{Absent, Refused, after_byte, after_bytes};
+use byte_parsing::{after_byte, after_bytes};
 use json_tree::{Items, Members, Tree};
 use std::alloc::Global;
-use vs_bytes::Text;
+use vs_bytes::{Absent, Refused, Text};
 
 // For how many members a record has room at first, and any array or object inside it: most have no
 // more, and the memory of a line of many small arrays stays within bounds.

@@ -5,11 +5,11 @@ use Rattle.json_strings.specs.Pieces.{Piece, byte, short, unit, pieces_spelled}
 use Rattle.json_strings.specs.Meaning.{IsString, text_of, lone_of}
 use Rattle.json_strings.specs.Reading.{string_at, quoted_at}
 use Rattle.json_strings.specs.Content.{Quote}
-use Rattle.byte_parsing.specs.Outcome.{Reads}
+use Rattle.vs_bytes.specs.Outcome.{Reads}
 use Rattle.json_strings.specs.Shown.{quote}
 use Rattle.json_strings.specs.declared.reader.Quoted.{Quoted}
-use Rattle.byte_parsing.specs.declared.refused.Absent.{Absent}
-use Rattle.byte_parsing.specs.declared.refused.Refused.{Refused}
+use Rattle.vs_bytes.specs.declared.refused.Absent.{Absent}
+use Rattle.vs_bytes.specs.declared.refused.Refused.{Refused}
 use Rattle.json_strings.proofs.Strings.{string_sound}
 
 pub spelled_longer : (ps : List Piece) (rest : List ℕ) → length rest < length (pieces_spelled ps rest)

@@ -8,13 +8,13 @@ use Rattle.std.proofs.lemmas.List.{take_all}
 use Rattle.std.proofs.lemmas.Str.{is_utf8-from_IsUtf8, IsUtf8-from_is_utf8}
 use Rattle.json_strings.specs.Meaning.{short_char, unit_of}
 use Rattle.json_strings.specs.Reading.{is_plain, is_short, are_hex, pieces_behind, quoted_at}
-use Rattle.byte_parsing.specs.Outcome.{Reads}
+use Rattle.vs_bytes.specs.Outcome.{Reads}
 use Rattle.json_strings.specs.Told.{Tells}
 use Rattle.json_strings.specs.Shown.{quote}
 use Rattle.json_strings.specs.declared.reader.Quoted.{Quoted}
-use Rattle.byte_parsing.specs.declared.refused.Absent.{Absent}
-use Rattle.byte_parsing.specs.declared.refused.Refused.{Refused}
-use Rattle.byte_parsing.specs.declared.refused.Refused.TheVariants.{Fault, NoMemory}
+use Rattle.vs_bytes.specs.declared.refused.Absent.{Absent}
+use Rattle.vs_bytes.specs.declared.refused.Refused.{Refused}
+use Rattle.vs_bytes.specs.declared.refused.Refused.TheVariants.{Fault, NoMemory}
 use Rattle.json_strings.specs.Content.{State, Quote, completed, after_bytes, after_unit, quote_from, quote_behind, quote_unit, plain_state, if_utf8, only_utf8}
 use Rattle.json_strings.proofs.Digits.{short_not_u}
 use Rattle.json_strings.proofs.Steps.{short_step, unit_step, run_step, run_begins, quoted_by_state, ended, stopped}

@@ -12,9 +12,8 @@ ghost use Rattle.std.proofs.Props.{props};
 use crate::escapes::{short_escape, unit_escape};
 use crate::reader::Quoted;
 use crate::runs::plain_len;
-use byte_parsing::{Absent, Refused};
 use std::alloc::Global;
-use vs_bytes::{NoMemory, Text};
+use vs_bytes::{Absent, NoMemory, Refused, Text};
 
 // The room behind the first bytes, before the text has to grow.
 const SPARE: usize = 32;

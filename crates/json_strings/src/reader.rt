@@ -2,7 +2,7 @@
 
 ghost use Rattle.std.specs.Prelude.{◌≡◌, ◌<◌, ℕ, List, Bool, true, false, Some, length, IfOk, IsErrOf};
 ghost use Rattle.std.specs.Str.{IsUtf8};
-ghost use Rattle.byte_parsing.specs.Outcome.{Reads};
+ghost use Rattle.vs_bytes.specs.Outcome.{Reads};
 ghost use Rattle.json_strings.specs.Content.{plain_state, quote_from, if_utf8, only_utf8};
 ghost use Rattle.json_strings.specs.Places.{IsStringAt};
 ghost use Rattle.json_strings.specs.Reading.{quoted_at, paired_text_at};
@@ -11,9 +11,8 @@ ghost use Rattle.json_strings.specs.Shown.{quote};
 use crate::ascii_runs::ascii_len;
 use crate::content::Content;
 use crate::runs::plain_len;
-use byte_parsing::{Absent, Refused};
 use std::alloc::Global;
-use vs_bytes::Text;
+use vs_bytes::{Absent, Refused, Text};
 
 /// Why no string was read at a place.
 #[derive(Clone, Copy, PartialEq, Eq, Debug, Drop)]

@@ -7,7 +7,7 @@ use Rattle.json_grammar.specs.Reading.{value_at, entry_at}
 use Rattle.exact_json.specs.Meaning.{tree_of, flaws_of, elements_flaws, more_elements_flaws, pair_in, entry_flaws, pairs_in, entries_flaws, more_pairs_in, more_entries_flaws}
 use Rattle.exact_json.specs.Parsing.{items_in, more_items_in}
 use Rattle.exact_json.specs.Shown.{shown}
-use Rattle.byte_parsing.proofs.Refusals.{fails}
+use Rattle.vs_bytes.proofs.Refusals.{fails}
 use Rattle.exact_json.proofs.Turns.{ends, stops, refuses, turns, starts, element_counts, element_first, entry_counts, entry_first, entry_is, array_within, object_within}
 use Rattle.exact_json.proofs.values.+parser.Goals as goal
 

@@ -1,7 +1,7 @@
 use Rattle.std.proofs.Common.{◌∙◌, sym, ap, subst, Option, arith}
 use Rattle.json_strings.specs.Content.{Quote, plain_state, only_utf8}
 use Rattle.json_strings.specs.Shown.{quote}
-use Rattle.byte_parsing.specs.Outcome.{Reads}
+use Rattle.vs_bytes.specs.Outcome.{Reads}
 use Rattle.json_strings.proofs.Rests.{told_shorter}
 use Rattle.json_strings.proofs.Turns.{begins, quote_turn, nothing_turn, stop_turn}
 use Rattle.json_strings.proofs.reader.read_any.Goals as goal

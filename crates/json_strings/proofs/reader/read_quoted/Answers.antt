@@ -2,7 +2,7 @@ use Rattle.std.proofs.Common.{sym, subst, Option}
 use Rattle.std.proofs.lemmas.Str.{IsUtf8-from_ascii}
 use Rattle.json_strings.specs.Content.{Quote}
 use Rattle.json_strings.specs.Shown.{quote}
-use Rattle.byte_parsing.specs.Outcome.{Reads}
+use Rattle.vs_bytes.specs.Outcome.{Reads}
 use Rattle.json_strings.proofs.ClearRuns.{clear_ascii, clear_string}
 use Rattle.json_strings.proofs.reader.read_quoted.Goals as goal
 
