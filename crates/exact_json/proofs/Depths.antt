@@ -68,7 +68,7 @@ opened n inner xs after h k = by (nat_le n 1) refl
         let back : n - 1 + 1 ≡ n = omega (arith, more) in
         k more ∙ rw (same, back) refl
 
--- one part behind another
+-- one part after another
 either : (n a b : ℕ) (rest : Bool) → (nat_le n a || (nat_le n b || rest)) ≡ (nat_le n (max a b) || rest)
 either n a b rest = sym (or_assoc (nat_le n a) (nat_le n b) rest) ∙ ap (λ t. t || rest) (joined n a b)
   where

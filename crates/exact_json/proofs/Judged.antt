@@ -69,7 +69,7 @@ text_judged before line json flaws none e = by (document_at line) refl e
         ∙ ap (λ t. fault_or t (fault_of (flaws_of w))) first
         ∙ ap (λ g. fault_or json (fault_of g)) second
 
--- no value where bytes stand behind it
+-- no value where bytes stand after it
 pub text_behind : (before : Flaws) (line xs : List ℕ) (json : Json) (now : Flaws) (behind left : List ℕ) → xs ≡ past_gap line → told before (value_at 64 xs) ≡ Some (json, now, behind) → left ≡ past_gap behind → (length left == 0) ≡ false → told_text before (document_at line) ≡ None
 text_behind before line xs json now behind left e f g h = rw (← e) (by (value_at 64 xs) f)
   where

@@ -35,7 +35,7 @@ abbrev mutual
 
 -- The text spells it.
 
--- a part, what stands behind it in its array or object, the closing byte, and what is behind that
+-- a part, what stands after it in its array or object, the closing byte, and what is after that
 behind : (here others : List ℕ) (close : ℕ) (after rest : List ℕ) → rest ≡ others ++ close ∷ after → here ++ rest ≡ (here ++ others) ++ close ∷ after
 behind here others close after rest e = ap (λ t. here ++ t) e ∙ sym (append_assoc here others (close ∷ after))
 
@@ -43,7 +43,7 @@ behind here others close after rest e = ap (λ t. here ++ t) e ∙ sym (append_a
 enclosed : (open_byte close : ℕ) (inner after spelling : List ℕ) → spelling ≡ inner ++ close ∷ after → open_byte ∷ spelling ≡ (open_byte ∷ (inner ++ close ∷ [])) ++ after
 enclosed open_byte close inner after spelling e = ap (λ t. open_byte ∷ t) (e ∙ sym (append_assoc inner (close ∷ []) after))
 
--- a member, and what stands behind it
+-- a member, and what stands after it
 member : (name value others : List ℕ) (after rest : List ℕ) → rest ≡ (value ++ others) ++ 125 ∷ after → 34 ∷ pieces_spelled (pieces_of name) (58 ∷ rest) ≡ (quoted name ++ 58 ∷ (value ++ others)) ++ 125 ∷ after
 member name value others after rest e =
     string_spells name (58 ∷ rest) ∙ ap (λ t. quoted name ++ 58 ∷ t) e ∙ sym (append_assoc (quoted name) (58 ∷ (value ++ others)) (125 ∷ after))

@@ -11,7 +11,7 @@ use Rattle.exact_json.proofs.TextNumbers.{text_well}
 one_is_utf8 : (b : ℕ) → b < 128 → IsUtf8 (b ∷ [])
 one_is_utf8 b h = ascii_is_utf8 (b ∷ []) (h, tt)
 
--- one ASCII byte more in front
+-- one more leading ASCII byte
 led : (b : ℕ) (bytes : List ℕ) → b < 128 → IsUtf8 bytes → IsUtf8 (b ∷ bytes)
 led b bytes h u = IsUtf8-append (b ∷ []) bytes (one_is_utf8 b h) u
 

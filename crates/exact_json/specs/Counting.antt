@@ -9,7 +9,7 @@ scan Outside xs left = outside xs left
 scan Inside xs left = inside xs left
 scan Escaped xs left = escaped xs left
 
--- behind a byte
+-- after a byte
 abbrev pub scan_on : Option (Place × ℕ) → List ℕ → Bool
 scan_on None xs = true
 scan_on (Some next) xs = scan next.0 xs next.1

@@ -7,7 +7,7 @@ ghost use Rattle.exact_json.specs.Counting.{scan, scan_on};
 // The first count of open brackets that is too many.
 const TOO_MANY: u64 = 65;
 
-// Where a byte stands: outside of quoted stretches, inside of one, or there behind a backslash.
+// Where a byte stands: outside of quoted stretches, inside of one, or there after a backslash.
 #[derive(Clone, Copy)]
 pub(crate) enum Place {
     Outside,
@@ -30,7 +30,7 @@ pub(crate) fn is_too_deep(line: &[u8]) -> bool
     false
 }
 
-// The place behind a byte, and how far the count may rise from there. None where the byte opens too many.
+// The place after a byte, and how far the count may rise from there. None where the byte opens too many.
 fn step(place: Place, left: u64, byte: u8) -> Option<(Place, u64)>
     requires { left < 2 ^ 64 - 1 }
     ensures scan { (xs : List ℕ) → scan place (byte ∷ xs) left ≡ scan_on result xs }

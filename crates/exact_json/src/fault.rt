@@ -18,7 +18,7 @@ pub enum DocFault {
     LoneSurrogate,
     /// An object has a name twice, after escapes.
     DuplicateKey,
-    /// A number needs more than 38 digits, or more than 38 places behind the point.
+    /// A number needs more than 38 digits, or more than 38 places after the point.
     NumberTooWide,
     /// There was no memory for its tree, which says nothing of the line.
     NoMemory,

@@ -11,10 +11,10 @@ use crate::seen::Seen;
 use exact_num::{NumFault, read_leading};
 use json_tree::Tree;
 
-/// Reads a number from the front of `text`, and gives the bytes behind it. One that isn't admitted is
+/// Reads a number from the front of `text`, and gives the bytes after it. One that isn't admitted is
 /// noted, and null stands in for it.
 ///
-/// All the bytes in front of which numbers consist are one number.
+/// All the leading bytes of which numbers consist are one number.
 #[tactic(auto, using(crate::proofs::NumberTold::number_told))]
 pub(crate) fn read_number<'a>(text: &'a [u8], noted: &mut Seen) -> Option<(Tree, &'a [u8])>
     ensures { Finds (λ x. (view x.0, shown noted.new, x.1.now)) result (told (shown noted.old) (number_at text.now)) }

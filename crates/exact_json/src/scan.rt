@@ -3,7 +3,7 @@
 ghost use Rattle.std.specs.Prelude.{◌≡◌};
 ghost use Rattle.json_grammar.specs.Reading.{is_space, past_gap};
 
-/// The bytes behind the white space in front (RFC 8259, section 2).
+/// The bytes after the leading white space (RFC 8259, section 2).
 #[inline(always)]
 pub fn past_gap(text: &[u8]) -> &[u8]
     ensures { result.now ≡ past_gap text.now }

@@ -11,7 +11,7 @@ use json_strings::read_quoted;
 use std::alloc::Global;
 use vs_bytes::{Absent, Refused, Text};
 
-/// Reads the rest of a string from its opening quote on, and gives the bytes behind its closing one.
+/// Reads the rest of a string from its opening quote on, and gives the bytes after its closing one.
 #[inline(always)]
 pub(crate) fn read_string<'a>(
     alloc: Global,

@@ -1,7 +1,7 @@
 //! Values (RFC 8259, section 3), arrays (section 5) and objects (section 4).
 //!
 //! Each function follows one function on lists of `json_grammar`, by the same calls: it gives the tree
-//! of what that reads, and the bytes behind it.
+//! of what that reads, and the bytes after it.
 
 ghost use Rattle.std.specs.Prelude.{◌≡◌, ◌==◌, cond, map};
 ghost use Rattle.json_tree.specs.Json.{array, parts_of};
@@ -29,7 +29,7 @@ const RECORD_ROOM: usize = 8;
 
 const INNER_ROOM: usize = 2;
 
-/// Reads a value from the front of `text`, and gives the bytes behind it. At most `depth` arrays and
+/// Reads a value from the front of `text`, and gives the bytes after it. At most `depth` arrays and
 /// objects may be open at once. The value's flaws are noted, and null stands in for what has no value.
 #[cycle(parser)]
 pub(crate) fn read_value<'a>(

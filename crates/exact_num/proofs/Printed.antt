@@ -4,7 +4,7 @@ use Rattle.std.proofs.lemmas.Fmt.{decimal_digit, decimal_step_wide}
 use Rattle.exact_num.specs.Text.{padded}
 use Rattle.exact_num.proofs.Powers.{ten_more, ten_some, ten_rises}
 
--- the digits of a number with a 1 in front
+-- the digits of a number with a leading 1
 pub marked_text : (k n : ℕ) → n < 10 ^ k → k ≤ 38 → decimal (10 ^ k + n) ≡ 49 ∷ padded k n
 unfolding padded
 marked_text zero n h few = ap decimal (let one : 10 ^ 0 + n ≡ 1 = omega arith in one) ∙ decimal_digit 1 (lit< tt)

@@ -40,7 +40,7 @@ printed_more n ds h p = record {
 printed : (n : ℕ) → n < 10 ^ 64 → IsPrinted n (decimal n)
 printed n h = decimal_by_steps_wide IsPrinted printed_one printed_more n h
 
--- the digits behind the point
+-- the digits after the point
 padded_digits : (k n : ℕ) → AllByRecursion IsDigit (padded k n)
 unfolding padded
 padded_digits zero n = tt

@@ -16,14 +16,14 @@ IsSame a b = a.unscaled *ℤ pos (10 ^ b.scale) ≡ b.unscaled *ℤ pos (10 ^ a.
 abbrev pub order : Decimal → Decimal → Ordering
 order a b = int_cmp (a.unscaled *ℤ pos (10 ^ b.scale)) (b.unscaled *ℤ pos (10 ^ a.scale))
 
--- a Number has so many digits at most, and so many of them behind the point
+-- a Number has so many digits at most, and so many of them after the point
 abbrev pub max_digits : ℕ
 max_digits = 38
 
 abbrev pub max_places : ℕ
 max_places = 38
 
--- what a Number is, which has no zero at the end behind the point
+-- what a Number is, which has no zero at the end after the point
 pub record IsNumber (d : Decimal) : Type 0 where
   pub size : unsigned_abs d.unscaled < 10 ^ max_digits
   pub places : d.scale ≤ max_places
@@ -34,7 +34,7 @@ abbrev pub IsAdmitted : Decimal → Type 0
 IsAdmitted d = (n : Decimal) × (IsNumber n × IsSame n d)
 
 -- There is one such Number at most, and it computes: zeros at the end are taken off as long as there
--- are places behind the point.
+-- are places after the point.
 
 -- the integer of a sign and a size; there is no negative 0
 abbrev pub signed : Bool → ℕ → ℤ

@@ -7,7 +7,7 @@ pub use Rattle.byte_parsing.specs.Words.{is_digit, is_empty, is_numeric, is_whol
 use Rattle.exact_num.specs.Spelling.{Sign, unmarked, plus, minus, Exponent, no_exponent, exponent, Written}
 
 -- The stages of the text are taken in turn. Each is named for what it is given: a Bool for the sign,
--- the digits in front of the point, those behind it, and the rest of the text.
+-- the digits before the point, those after it, and the rest of the text.
 
 -- the digits that stand first, and what comes after them
 abbrev pub front : List ℕ → List ℕ
@@ -20,7 +20,7 @@ back xs = bytes.back is_digit xs
 unfoldable pub power_digits : ℕ → Sign → List ℕ → Option Exponent
 power_digits mark sign ds = cond (is_empty ds) None (cond (list_all is_digit ds) (Some (exponent mark sign ds)) None)
 
--- behind the mark there may be a sign
+-- after the mark there may be a sign
 abbrev pub power_from : ℕ → List ℕ → Option (List ℕ) → Option (List ℕ) → Option Exponent
 power_from mark text (Some rest) other = power_digits mark minus rest
 power_from mark text None (Some rest) = power_digits mark plus rest
@@ -37,12 +37,12 @@ unfoldable pub power_of : List ℕ → Option Exponent
 power_of [] = Some no_exponent
 power_of (x ∷ xs) = cond (is_mark x) (power_signed x xs) None
 
--- behind the digits
+-- after the digits
 unfoldable pub ended : Bool → List ℕ → List ℕ → List ℕ → Option Written
 ended negative whole fraction rest =
     option_map (λ e. record { negative = negative; whole = whole; fraction = fraction; power = e }) (power_of rest)
 
--- behind the point there is a digit at least
+-- after the point there is a digit at least
 unfoldable pub pointed : Bool → List ℕ → List ℕ → Option Written
 pointed negative whole rest = cond (is_empty (front rest)) None (ended negative whole (front rest) (back rest))
 
@@ -50,7 +50,7 @@ abbrev pub point_from : Bool → List ℕ → List ℕ → Option (List ℕ) →
 point_from negative whole rest None = ended negative whole [] rest
 point_from negative whole rest (Some more) = pointed negative whole more
 
--- behind the sign
+-- after the sign
 unfoldable pub unsigned : Bool → List ℕ → Option Written
 unsigned negative text =
     cond (is_whole (front text)) (point_from negative (front text) (back text) (past 46 (back text))) None

@@ -93,7 +93,7 @@ up e = cond (is_down e) 0 (exponent_size e)
 abbrev pub down : Exponent → ℕ
 down e = cond (is_down e) (exponent_size e) 0
 
--- the integer of all digits, and the places behind the point
+-- the integer of all digits, and the places after the point
 abbrev pub meaning : Written → Decimal
 meaning w = record {
   unscaled = signed w.negative (digits_value 0 (w.whole ++ w.fraction) * 10 ^ up w.power);

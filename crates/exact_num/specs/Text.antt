@@ -11,7 +11,7 @@ padded (suc k) n = padded k (n / 10) ++ (48 + n % 10) ∷ []
 abbrev pub point_text : ℕ → ℕ → List ℕ
 point_text scale n = cond (scale == 0) [] (46 ∷ padded scale n)
 
--- the whole part, and as many digits behind the point as the scale says
+-- the whole part, and as many digits after the point as the scale says
 unfoldable pub size_text : ℕ → ℕ → List ℕ
 size_text size scale = decimal (size / 10 ^ scale) ++ point_text scale (size % 10 ^ scale)
 

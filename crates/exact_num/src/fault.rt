@@ -9,7 +9,7 @@ pub enum NumFault {
     /// It is no JSON number (RFC 8259, section 6).
     #[error("not a number")]
     NotNumber,
-    /// Its value needs more than 38 digits, or more than 38 places behind the point.
+    /// Its value needs more than 38 digits, or more than 38 places after the point.
     #[error("number too wide")]
     TooWide,
 }

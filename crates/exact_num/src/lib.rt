@@ -1,7 +1,7 @@
 //! Exact decimal numbers: read from JSON texts, compared, printed and turned into integers, with no
 //! rounding anywhere.
 //!
-//! A `Number` is `unscaled / 10 ^ scale` with at most 38 digits and 38 places behind the point. Contracts
+//! A `Number` is `unscaled / 10 ^ scale` with at most 38 digits and 38 places after the point. Contracts
 //! see it as a `Decimal`, which has no bound, and what a text means is a `Decimal` too.
 //!
 //! | Module | What it holds |

@@ -3,7 +3,7 @@
 ghost use Rattle.std.specs.Prelude.{◌≡◌, ℕ, ◌*◌, ◌%◌, ◌^◌, ◌<◌, ◌≤◌, pos, int_lt, unsigned_abs};
 ghost use Rattle.exact_num.specs.Decimal.{max_digits, max_places, IsSame, least, shortened, signed};
 
-/// An exact decimal: `unscaled / 10 ^ scale`, of 38 digits and 38 places at most, in least scale: behind
+/// An exact decimal: `unscaled / 10 ^ scale`, of 38 digits and 38 places at most, in least scale: after
 /// the point there is no zero at the end. So each value has one `Number`; there is no negative 0.
 #[derive(Clone, Copy, PartialEq, Eq, Debug, Drop)]
 pub struct Number {
@@ -69,7 +69,7 @@ impl Number {
         self.unscaled < 0
     }
 
-    /// How many digits it has behind the point.
+    /// How many digits it has after the point.
     pub fn scale(self) -> u8
         ensures value { result ≡ (decimal_of self).scale }
         ensures small { result ≤ max_places }

@@ -24,7 +24,7 @@ pub fn cmp(a: Number, b: Number) -> Ordering
     }
 }
 
-// The order of a / 10 ^ s and b / 10 ^ t: by the whole parts, and then by what is behind the point.
+// The order of a / 10 ^ s and b / 10 ^ t: by the whole parts, and then by what is after the point.
 #[tactic(auto, using(crate::proofs::Orders::wholes_below, crate::proofs::Orders::wholes_above, crate::proofs::Orders::wholes_same))]
 fn cmp_sizes(a: u128, s: u8, b: u128, t: u8) -> Ordering
     requires s { s ≤ max_places }

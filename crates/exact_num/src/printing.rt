@@ -61,7 +61,7 @@ fn put_whole(into: &mut Vec<u8>, size: u128) -> Result<(), AllocError>
     }
 }
 
-// The digits behind a 1 in front, which keeps the zeros at their beginning.
+// The digits after a leading 1, which keeps the zeros at their beginning.
 #[tactic(auto, using(crate::proofs::Printed::marked_text))]
 fn put_places(into: &mut Vec<u8>, rest: u128, scale: u8) -> Result<(), AllocError>
     requires scale { scale ≤ max_places }

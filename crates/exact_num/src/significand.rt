@@ -23,8 +23,8 @@ impl Significand {
         zeros: 0,
     };
 
-    /// The integer with more digits behind it; `None` where that has more than 38 between its first and
-    /// its last that isn't 0, which no digit behind them changes.
+    /// The integer with more digits after it; `None` where that has more than 38 between its first and
+    /// its last that isn't 0, which no digit after them changes.
     pub(crate) fn with_digits(self, digits: &[u8]) -> Option<Significand>
         requires all { All IsDigit digits.now }
         requires zeros { self.zeros + length digits.now < 2 ^ 66 }
@@ -54,7 +54,7 @@ impl Significand {
         Some(Significand { digits, zeros: 0 })
     }
 
-    // The integer with a digit other than 0 behind it.
+    // The integer with a digit other than 0 after it.
     fn with_last(self, digit: u8) -> Option<u128>
         requires digit { (0 < digit) × (digit < 10) }
         requires zeros { self.zeros < 2 ^ 66 }

@@ -28,7 +28,7 @@ Judges l (faulty fault) = (is_blank l ≡ false) × IsFirstFault l fault
 abbrev pub Stops : Ending → List Json → Ending → Type 0
 Stops here documents ending = (documents ≡ []) × (ending ≡ here)
 
--- what line n adds to the documents of the lines behind it
+-- what line n adds to the documents of the lines after it
 abbrev pub Follows : Verdict → ℕ → (List Json → Ending → Type 0) → List Json → Ending → Type 0
 Follows blank n Behind documents ending = Behind documents ending
 Follows (document json) n Behind documents ending = (more : List Json) × (documents ≡ json ∷ more) × Behind more ending

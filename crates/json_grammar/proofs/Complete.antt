@@ -15,7 +15,7 @@ use Rattle.json_grammar.proofs.Gaps.{gap_passes, gap_is, past_gap_is, gap_quiet}
 use Rattle.json_grammar.proofs.Strings.{pieces_longer}
 use Rattle.json_grammar.proofs.Numbers.{Starts, number_passes, number_starts, number_complete}
 
--- The bytes behind a value stay behind it.
+-- The bytes after a value stay after it.
 
 mutual
   longer : (w : Written) (after : List ℕ) → length after ≤ length (spelled w after)

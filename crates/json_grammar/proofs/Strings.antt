@@ -9,7 +9,7 @@ use Rattle.byte_parsing.proofs.Holds.{Holds}
 pub string_sound : (xs : List ℕ) → Holds (λ read. (xs ≡ pieces_spelled read.0 read.1) × IsString read.0) (string_at xs)
 string_sound xs = record { here = λ read e. strings.string_sound xs read.0 read.1 e }
 
--- the bytes behind a string stay behind it
+-- the bytes after a string stay after it
 pub pieces_longer : (ps : List Piece) (after : List ℕ) → length after ≤ length (pieces_spelled ps after)
 pieces_longer [] after = omega arith
 pieces_longer (byte x ∷ ps) after = omega (arith, pieces_longer ps after)

@@ -12,7 +12,7 @@ mutual
     boolean : Bool → Written
     number : List ℕ → Written
     text : List Piece → Written
-    -- an array or object has white space behind its opening bracket
+    -- an array or object has white space after its opening bracket
     array : List ℕ → Elements → Written
     object : List ℕ → Entries → Written
 
@@ -37,7 +37,7 @@ mutual
     end_entries : MoreEntries
     next_entry : List ℕ → Entry → List ℕ → MoreEntries → MoreEntries
 
--- The bytes, with `after` behind them.
+-- The bytes, with `after` after them.
 
 abbrev mutual
   pub spelled : Written → List ℕ → List ℕ

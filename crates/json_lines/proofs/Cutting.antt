@@ -1,4 +1,4 @@
--- What the first bytes of an input say of its lines, whatever comes behind them.
+-- What the first bytes of an input say of its lines, whatever comes after them.
 use Rattle.std.proofs.Common.{◌≡◌, ◌∙◌, ℕ, zero, suc, ◌+◌, ◌-◌, ◌<◌, ◌≤◌, true, false, ◌==◌, List, [], ◌∷◌, ◌++◌, take, drop, length, get_or, append_assoc, refl, sym, ap, arith}
 use Rattle.std.proofs.lemmas.Bool.{ne_eqb, eqb-true, false_from_ne_true, lt-ltb, le-ltb}
 use Rattle.std.proofs.lemmas.List.{length-append, take_more, take-append-drop}
@@ -74,7 +74,7 @@ passed_limit (x ∷ xs) rest (suc r) more plain =
 
 -- ---- bytes with no LF
 
--- bytes in front of the first line
+-- bytes before the first line
 abbrev pub fronted : List ℕ → Lines → Lines
 fronted [] ls = ls
 fronted (x ∷ xs) ls = prepended x (fronted xs ls)

@@ -61,7 +61,7 @@ module _ (test : ℕ → Bool) (xs : List ℕ) (start searched end : ℕ) where
       let all = plain_held end (omega arith) (none_searched high within plain none) in
       λ k low below h. all k low (omega arith) h
 
--- ---- a read behind the end
+-- ---- a read after the end
 
 pub range_is : (xs : List ℕ) (start end : ℕ) → start ≤ end → slice_range xs start end ≡ drop start (take end xs)
 range_is xs start end order = sym (ap (λ (n : ℕ). drop start (take n xs)) (omega arith) ∙ drop-take start (end - start) xs)
@@ -82,7 +82,7 @@ passes_same test xs ys end k within e h =
 pub plain_same : (test : ℕ → Bool) (xs ys : List ℕ) (start searched end : ℕ) → searched ≤ end → take end ys ≡ take end xs → Nowhere (Passes test xs) start searched → Nowhere (Passes test ys) start searched
 plain_same test xs ys start searched end order e plain k low high h = plain k low high (passes_same test xs ys end k (omega arith) e h)
 
--- what stands behind a written part doesn't show in front of its end
+-- what stands after a written part doesn't show before its end
 pub written_front : (xs part behind : List ℕ) (from count : ℕ) → from ≤ length xs → count ≤ length part → take (from + count) (take from xs ++ (part ++ behind)) ≡ take from xs ++ take count part
 written_front xs part behind from count within few =
     let front : length (take from xs) ≡ from = length-take-le from xs within in

@@ -10,7 +10,7 @@ pub data Lines : Type 0 where
   last : List ℕ → Lines
   -- a line that isn't ended where the limit of the input is reached, though the input goes on
   over : List ℕ → Lines
-  -- a line that an LF ends, and the lines behind it
+  -- a line that an LF ends, and the lines after it
   line : List ℕ → Lines → Lines
 
 -- one more byte at the front of the first line
@@ -50,7 +50,7 @@ pub data Found : Type 0 where
 abbrev pub judged : ℕ → List ℕ → Lines → Found → Found
 judged n l behind passed = cond (is_long l) (found_long n) (cond (is_blank l) passed (found_line n l behind))
 
--- the first line that isn't blank, with its number and the lines behind it, where n lines came before
+-- the first line that isn't blank, with its number and the lines after it, where n lines came before
 abbrev pub first_line : ℕ → Lines → Found
 first_line n none = found_end
 first_line n (last l) = judged (n + 1) l none found_end

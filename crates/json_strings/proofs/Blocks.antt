@@ -1,4 +1,4 @@
--- Bytes that stand for themselves, a block behind another.
+-- Bytes that stand for themselves, a block after another.
 use Rattle.std.proofs.Common.{◌≡◌, subst, ⊎_elim, ℕ, ◌+◌, ◌-◌, ◌<◌, ◌≤◌, List, true, take, drop, length, get_or, get_or-take, get_or-drop, length-take, length-drop, arith}
 use Rattle.std.proofs.lemmas.Bool.{cases_lt}
 use Rattle.json_strings.specs.Reading.{is_plain}

@@ -1,4 +1,4 @@
--- What is behind a string is shorter than what it stands in.
+-- What is after a string is shorter than what it stands in.
 use Rattle.std.proofs.Common.{◌≡◌, refl, subst, ℕ, ◌<◌, List, [], ◌∷◌, Option, Some, None, Ok, Err, Result, IfOk, length, arith}
 use Rattle.std.specs.Option.{option_map}
 use Rattle.json_strings.specs.Pieces.{Piece, byte, short, unit, pieces_spelled}

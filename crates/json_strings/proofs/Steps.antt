@@ -37,7 +37,7 @@ unit_step s a b c d xs e = rw e (by (pieces_at xs))
     by None = refl
     by (Some read) = rw (append_assoc, or_assoc) refl
 
--- bytes that are added one behind the other are added at once
+-- bytes that are added one after the other are added at once
 more_bytes : (s : State) (x : ℕ) (xs : List ℕ) → after_bytes (after_bytes s (x ∷ [])) xs ≡ after_bytes s (x ∷ xs)
 more_bytes s x xs = rw (append_assoc, or_false) refl
 

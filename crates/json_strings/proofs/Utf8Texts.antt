@@ -104,7 +104,7 @@ unit_is_utf8 high u h small = by (is_high_surrogate u) refl (is_low_surrogate u)
     by false e true f = pair_is_utf8 high u h f
     by false e false f = IsUtf8-encode u (alone_is_scalar u small e f)
 
--- what is behind the digits of an escape
+-- what is after the digits of an escape
 digits_behind : (a b c d : ℕ) (rest run : List ℕ) → IsPiece (unit a b c d) → IsUtf8 (run ++ (92 ∷ (117 ∷ (a ∷ (b ∷ (c ∷ (d ∷ rest))))))) → IsUtf8 rest
 digits_behind a b c d rest run h u =
     let slash = after_ascii run (117 ∷ (a ∷ (b ∷ (c ∷ (d ∷ rest))))) 92 (omega arith) u in
@@ -133,7 +133,7 @@ text_is_utf8 (unit a b c d ∷ ps) after run high h k u =
     IsUtf8-append run (unit_text high (unit_of a b c d) ++ text_after (high_of (unit_of a b c d)) ps) (before_ascii run (117 ∷ (a ∷ (b ∷ (c ∷ (d ∷ pieces_spelled ps after))))) 92 (omega arith) u)
     (IsUtf8-append (unit_text high (unit_of a b c d)) (text_after (high_of (unit_of a b c d)) ps) (unit_is_utf8 high (unit_of a b c d) k (unit_is_small a b c d digits)) rest)
 
--- what is behind a string in UTF-8 bytes
+-- what is after a string in UTF-8 bytes
 pub behind_is_utf8 : (ps : List Piece) (after run : List ℕ) → ArePieces ps → IsUtf8 (run ++ pieces_spelled ps after) → IsUtf8 after
 behind_is_utf8 [] after run h u = after_ascii run after 34 (omega arith) u
 behind_is_utf8 (byte x ∷ ps) after run h u = behind_is_utf8 ps after (run ++ x ∷ []) h.1 (rw append_assoc u)
@@ -172,7 +172,7 @@ meant_utf8 before after ps h u = text_is_utf8 ps after [] None h tt (after_ascii
 pub read_unjudged : (before xs : List ℕ) → IsUtf8 (before ++ 34 ∷ xs) → string_at xs ≡ pieces_at xs
 read_unjudged before xs u = judged_once xs (after_ascii before xs 34 (omega arith) u)
 
--- UTF-8 bytes cut behind the last of those in front that stand for themselves
+-- UTF-8 bytes cut after the last of the leading ones that stand for themselves
 plain_boundary : (xs : List ℕ) (n : ℕ) → n ≤ length xs → (n < length xs → is_plain (get_or xs n 0) ≡ false) → IsCharBoundary xs n
 unfolding is_plain
 plain_boundary xs n fits ended = (fits, λ below. let stop = ended below in grind (arith, nat_tests))

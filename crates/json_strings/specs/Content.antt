@@ -25,7 +25,7 @@ after_unit s u = record { text = s.text ++ unit_text s.high u; high = high_of u;
 abbrev pub plain_state : List ℕ → State
 plain_state bytes = record { text = bytes; high = None; lone = false }
 
--- the text, whether some surrogate has no partner, and what is behind the string
+-- the text, whether some surrogate has no partner, and what is after the string
 abbrev pub Quote : Type 0
 Quote = List ℕ × Bool × List ℕ
 
@@ -37,11 +37,11 @@ completed s read = (s.text ++ text_after s.high read.0, s.lone || lone_after s.h
 abbrev pub quote_from : State → List ℕ → Option Quote
 quote_from s xs = option_map (completed s) (pieces_at xs)
 
--- behind a backslash
+-- after a backslash
 abbrev pub quote_behind : State → List ℕ → Option Quote
 quote_behind s xs = option_map (completed s) (pieces_behind xs)
 
--- behind \u
+-- after \u
 abbrev pub quote_unit : State → List ℕ → Option Quote
 quote_unit s xs = option_map (completed s) (pieces_unit xs)
 

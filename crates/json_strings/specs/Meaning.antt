@@ -13,7 +13,7 @@ short_char x = cond (x == 98) 8 (cond (x == 102) 12 (cond (x == 110) 10 (cond (x
 unfoldable pub unit_of : ℕ → ℕ → ℕ → ℕ → ℕ
 unit_of a b c d = ((digit_value a * 16 + digit_value b) * 16 + digit_value c) * 16 + digit_value d
 
--- What the pieces behind mean goes by the high surrogate that stands right before them, if one does.
+-- What the pieces that follow mean goes by the high surrogate that stands right before them, if one does.
 
 -- the high surrogate that a unit is
 unfoldable pub high_of : ℕ → Option ℕ
@@ -34,7 +34,7 @@ unfoldable pub is_unpaired : Option ℕ → ℕ → Bool
 is_unpaired None u = is_low_surrogate u
 is_unpaired (Some high) u = not (is_low_surrogate u)
 
--- the text of the pieces behind a high surrogate, or behind none
+-- the text of the pieces after a high surrogate, or after none
 abbrev pub text_after : Option ℕ → List Piece → List ℕ
 text_after high [] = []
 text_after high (byte x ∷ ps) = x ∷ text_after None ps

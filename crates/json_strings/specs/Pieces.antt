@@ -8,7 +8,7 @@ pub data Piece : Type 0 where
   short : ℕ → Piece
   unit : ℕ → ℕ → ℕ → ℕ → Piece
 
--- the rest of a string from behind its opening quote on, its closing quote, and what is behind that
+-- the rest of a string after its opening quote, its closing quote, and what is after that
 abbrev pub pieces_spelled : List Piece → List ℕ → List ℕ
 pieces_spelled [] after = 34 ∷ after
 pieces_spelled (byte x ∷ ps) after = x ∷ pieces_spelled ps after

@@ -15,7 +15,7 @@ use crate::runs::plain_len;
 use std::alloc::Global;
 use vs_bytes::{Absent, NoMemory, Refused, Text};
 
-// The room behind the first bytes, before the text has to grow.
+// The room after the first bytes, before the text has to grow.
 const SPARE: usize = 32;
 
 /// The text, the high surrogate that stands right before what comes, if one does, and whether some
@@ -108,7 +108,7 @@ impl Content {
         self.add_char(pair_char(high, low))
     }
 
-    /// Reads an escape from behind its backslash on, and gives what is behind it.
+    /// Reads an escape after its backslash, and gives what is after it.
     pub fn escape<'a>(&mut self, text: &'a [u8]) -> Result<&'a [u8], Refused<Absent>>
         ensures shorter { IfOk result (λ rest. length rest.now < length text.now) }
         ensures told { MatchResult result (λ rest. quote_behind (state self.old) text.now ≡ quote_from (state self.new) rest.now) (λ fault. Tells fault (pieces_behind text.now ≡ None)) }
@@ -126,7 +126,7 @@ impl Content {
         }
     }
 
-    // Reads the four digits behind \u, and gives what is behind them.
+    // Reads the four digits after \u, and gives what is after them.
     fn unit<'a>(&mut self, text: &'a [u8]) -> Result<&'a [u8], Refused<Absent>>
         ensures shorter { IfOk result (λ rest. length rest.now < length text.now) }
         ensures told { MatchResult result (λ rest. quote_unit (state self.old) text.now ≡ quote_from (state self.new) rest.now) (λ fault. Tells fault (pieces_unit text.now ≡ None)) }
@@ -143,7 +143,7 @@ impl Content {
         }
     }
 
-    /// Takes the bytes in front that stand for themselves, and gives what is behind them.
+    /// Takes the leading bytes that stand for themselves, and gives what is after them.
     pub fn run<'a>(&mut self, text: &'a [u8]) -> Result<&'a [u8], Refused<Absent>>
         requires { 0 < length text.now }
         ensures shorter { IfOk result (λ rest. length rest.now < length text.now) }
@@ -158,7 +158,7 @@ impl Content {
         Ok(rest)
     }
 
-    /// Ends the string, behind which `rest` stands. There is none where the text isn't UTF-8.
+    /// Ends the string, after which `rest` stands. There is none where the text isn't UTF-8.
     pub fn end<'a>(self, rest: &'a [u8]) -> Option<Quoted<'a>>
         ensures { option_map quote result ≡ if_utf8 ((state self).text, (state self).lone || is_some (state self).high, rest.now) }
     {

@@ -1,4 +1,4 @@
-//! Escapes, from behind their backslash on.
+//! Escapes, after their backslash.
 
 ghost use Rattle.std.specs.Prelude.{◌≡◌, ◌<◌, ◌^◌, true, IfSome, SomeIff};
 ghost use Rattle.std.specs.Char.{digit_value};

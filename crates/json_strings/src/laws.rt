@@ -7,7 +7,7 @@ ghost use Rattle.json_strings.specs.Pieces.{Piece, ArePieces, pieces_spelled};
 ghost use Rattle.json_strings.specs.Meaning.{IsString, text_of};
 ghost use Rattle.json_strings.specs.Reading.{pieces_at, string_at};
 
-/// A string is read, whatever is behind it.
+/// A string is read, whatever is after it.
 pub fn strings_are_complete()
     ensures { (ps : List Piece) (after : List ℕ) → IsString ps → string_at (pieces_spelled ps after) ≡ Some (ps, after) }
 {}

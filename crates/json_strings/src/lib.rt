@@ -10,8 +10,8 @@
 //! |---|---|
 //! | `reader` | `read_quoted`, `read_text`: the rest of a string; `read_string`: a string at a place |
 //! | `content` | what was read of a string that has escapes |
-//! | `escapes` | escapes, from behind their backslash on |
-//! | `runs` | the bytes in front that stand for themselves |
+//! | `escapes` | escapes, after their backslash |
+//! | `runs` | the leading bytes that stand for themselves |
 //! | `ascii_runs` | those of them that are ASCII, sixteen at a time |
 //! | `laws` | what is written is read, and what is read is written; strings in UTF-8 bytes mean UTF-8 |
 #![tactic(auto)]

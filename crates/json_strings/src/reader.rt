@@ -25,18 +25,18 @@ pub enum StringFault {
     NoMemory,
 }
 
-/// A string that was read from behind its opening quote on.
+/// A string that was read after its opening quote.
 #[derive(Drop)]
 pub struct Quoted<'a> {
     /// Its text, to which a surrogate with no partner adds nothing.
     pub text: Text,
     /// Whether some surrogate has no partner.
     pub lone: bool,
-    /// The bytes behind its closing quote.
+    /// The bytes after its closing quote.
     pub rest: &'a [u8],
 }
 
-// A string of bytes that stand for themselves, behind which `rest` stands.
+// A string of bytes that stand for themselves, after which `rest` stands.
 fn read_plain<'a>(alloc: Global, run: &[u8], rest: &'a [u8]) -> Result<Quoted<'a>, Refused<Absent>>
     ensures { Reads quote result (if_utf8 (run.now, false, rest.now)) }
 {
@@ -73,7 +73,7 @@ fn read_escaped<'a>(
     Err(Refused::Fault(Absent))
 }
 
-// A string of ASCII bytes that stand for themselves, behind which `rest` stands.
+// A string of ASCII bytes that stand for themselves, after which `rest` stands.
 #[inline(always)]
 fn read_ascii<'a>(alloc: Global, run: &[u8], rest: &'a [u8]) -> Result<Quoted<'a>, Refused<Absent>>
     requires { IsUtf8 run.now }
@@ -103,7 +103,7 @@ fn read_any<'a>(alloc: Global, text: &'a [u8]) -> Result<Quoted<'a>, Refused<Abs
     }
 }
 
-/// Reads the rest of a string, from behind its opening quote on.
+/// Reads the rest of a string, after its opening quote.
 ///
 /// A string whose text isn't UTF-8 is no string. One without escapes is copied once.
 #[inline(always)]
@@ -120,7 +120,7 @@ pub fn read_quoted<'a>(alloc: Global, text: &'a [u8]) -> Result<Quoted<'a>, Refu
     read_any(alloc, text)
 }
 
-/// Reads the rest of a string, from behind its opening quote on, and gives its text and the bytes behind
+/// Reads the rest of a string, after its opening quote, and gives its text and the bytes after
 /// its closing quote. A string in which some surrogate has no partner has no text.
 pub fn read_text(alloc: Global, text: &[u8]) -> Result<(Text, &[u8]), Refused<Absent>>
     ensures { Reads (λ x. (x.0, x.1.now)) result (paired_text_at text.now) }

@@ -3,10 +3,10 @@
 ghost use Rattle.std.specs.Prelude.{◌≡◌, ℕ, ◌<◌, ◌≤◌, true, false, length, slice_index};
 ghost use Rattle.json_strings.specs.Reading.{is_plain};
 
-// So many bytes are tested at once, behind as many that are tested one by one: most strings are short.
+// So many bytes are tested at once, after as many that are tested one by one: most strings are short.
 const BLOCK: usize = 16;
 
-/// How many bytes in front stand for themselves: those before the first quote, backslash or control
+/// How many leading bytes stand for themselves: those before the first quote, backslash or control
 /// byte.
 pub fn plain_len(text: &[u8]) -> usize
     ensures within { result ≤ length text.now }
@@ -37,7 +37,7 @@ fn plain_until(text: &[u8], from: usize, end: usize) -> usize
     at
 }
 
-// The place behind the whole blocks from `from` on that stand for themselves.
+// The place after the whole blocks from `from` on that stand for themselves.
 fn past_blocks(text: &[u8], from: usize) -> usize
     requires { from ≤ length text.now }
     ensures within { result ≤ length text.now }

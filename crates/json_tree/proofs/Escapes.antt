@@ -39,7 +39,7 @@ kept_turn first into text start i h le plain e =
     ∙ ap (λ s. first ++ (done ++ s)) (sym plain)
     ∙ ap (λ s. first ++ s) (sym (text_more text i h))
 
--- the run is appended, and the byte at `i` behind it
+-- the run is appended, and the byte at `i` after it
 pub escaped_turn : (first into text : List ℕ) (start i : ℕ) → i < length text → start ≤ i
     → into ++ drop start (take i text) ≡ first ++ flat_map escaped (take i text)
     → ((into ++ take (i - start) (drop start text)) ++ escaped (get_or text i 0)) ++ drop (i + 1) (take (i + 1) text) ≡ first ++ flat_map escaped (take (i + 1) text)

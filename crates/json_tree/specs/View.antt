@@ -13,6 +13,6 @@ view (Text s) = text s
 view (Array ps) = array ps
 view (Object fs) = object fs
 
--- a name with the value behind it
+-- a name with its value
 abbrev pub seen : List ℕ × Tree → List ℕ × Json
 seen pair = (pair.0, view pair.1)

@@ -5,14 +5,14 @@ use Rattle.std.proofs.KnownBytes.{Appends-trans}
 use Rattle.std.proofs.lemmas.List.{take-take, take_at, length-take-le, length-drop, drop-drop, take-append-drop}
 use Rattle.std.proofs.Math.Seq.{take-add}
 
--- the first n bytes from a place on, behind those before that place
+-- the first n bytes from a place on, after those before that place
 pub appends_on : (a b c : Option (List ℕ)) (bytes : List ℕ) (at n : ℕ) → at + n ≤ length bytes → Appends a b (take at bytes)
     → Appends b c (take n (take (length bytes - at) (drop at bytes))) → Appends a c (take (at + n) bytes)
 appends_on a b c bytes at n fits before more =
     let same : take n (take (length bytes - at) (drop at bytes)) ≡ take n (drop at bytes) = take-take n (length bytes - at) (drop at bytes) (omega arith) in
     subst (λ (s : List ℕ). Appends a c s) (sym (take-add at n bytes)) (Appends-trans a b c (take at bytes) (take n (drop at bytes)) before (subst (λ (s : List ℕ). Appends b c s) same more))
 
--- what is left from a place on is the copy of its first n bytes, at the front of some buffer, and what stands behind them
+-- what is left from a place on is the copy of its first n bytes, at the front of some buffer, and what stands after them
 pub split_at : (bytes copied behind left : List ℕ) (at n : ℕ) → left ≡ drop at bytes → at + n ≤ length bytes → copied ≡ take (at + n - at) (drop at bytes)
     → left ≡ take n (copied ++ behind) ++ drop (at + n) bytes
 split_at bytes copied behind left at n is within copy =

@@ -23,7 +23,7 @@ pub prefix_more : (old new : Option (List ℕ)) (bytes more : List ℕ) → Appe
 prefix_more old new bytes more p =
     (p.0, omega (arith, p.1, length-append bytes more), subst (λ (s : List ℕ). Appends old new s) (sym (take-append-le p.0 bytes more p.1)) p.2)
 
--- what is gathered grows by what is gathered behind it
+-- what is gathered grows by what is gathered after it
 gathers_more : (a b c : Option (List ℕ)) (p q r xs ys : List ℕ) → Appends a (append_known b q) (p ++ xs) → Appends b (append_known c r) (q ++ ys) → Appends a (append_known c r) (p ++ (xs ++ ys))
 gathers_more None b c p q r xs ys f g = tt
 gathers_more (Some a) None c p q r xs ys f g = absurd f

@@ -11,7 +11,7 @@ use vs_bytes::{NoMemory, Text};
 // Where there is no memory for the words themselves.
 const NO_MEMORY: u8 = 7;
 
-/// The words behind the program's name.
+/// The words after the program's name.
 ///
 /// They are read all or none: where one isn't UTF-8 there are none, and no command has none.
 fn words(rt: &HostRuntime) -> Result<Vec<Word>, NoMemory> {
