@@ -5,7 +5,7 @@ ghost use Rattle.json_tree.specs.Order.{IsOrdered};
 ghost use Rattle.json_tree.specs.View.{view};
 ghost use Rattle.json_grammar.specs.Reading.{document_at};
 ghost use Rattle.exact_json.specs.Brackets.{is_too_deep};
-ghost use Rattle.exact_json.specs.Judging.{Makes, judged_text, fault_or, fault_of};
+ghost use Rattle.exact_json.specs.Judging.{Gives, judged_text, fault_or, fault_of};
 ghost use Rattle.exact_json.specs.declared.fault.DocFault.TheVariants.{TooDeep, NotJson};
 ghost use Rattle.exact_json.specs.Meaning.{Answers};
 ghost use Rattle.vs_bytes.specs.Outcome.{Reads};
@@ -43,7 +43,7 @@ pub fn read_line(alloc: Global, line: &[u8]) -> Result<Tree, DocFault>
 
 // Of a line that is UTF-8 and not too long.
 fn read_text(alloc: Global, line: &[u8]) -> Result<Tree, DocFault>
-    ensures { Makes view result (judged_text line.now) }
+    ensures { Gives view result (judged_text line.now) }
 {
     let mut noted = Seen::new();
     match read_document(alloc, line, &mut noted) {
@@ -54,7 +54,7 @@ fn read_text(alloc: Global, line: &[u8]) -> Result<Tree, DocFault>
 }
 
 fn unless_flawed(tree: Tree, noted: &Seen) -> Result<Tree, DocFault>
-    ensures { Makes view result (fault_or (view tree) (fault_of (shown noted.now))) }
+    ensures { Gives view result (fault_or (view tree) (fault_of (shown noted.now))) }
 {
     match noted.fault() {
         Some(fault) => Err(fault),
