@@ -1,8 +1,8 @@
 -- Values worked out by hand from the standard, byte by byte.
-use Rattle.std.proofs.Common.{◌≡◌, ◌<◌, refl, ℕ, zero, suc, List, [], ◌∷◌, true, Ok, Err, pos, slice_index, arith, lit<}
+use Rattle.std.proofs.Common.{◌≡◌, ◌<◌, refl, ℕ, zero, suc, [], ◌∷◌, true, Ok, Err, pos, slice_index, arith, lit<}
 use Rattle.std.proofs.lemmas.Str.{is_utf8-from_IsUtf8, IsUtf8-from_ascii}
 use Rattle.std.specs.Str.{is_utf8}
-use Rattle.exact_num.specs.Decimal.{Decimal, shortened}
+use Rattle.exact_num.specs.Decimal.{shortened}
 use Rattle.exact_num.specs.Unscaled.{half, signed_number}
 use Rattle.json_tree.specs.Json as json
 use Rattle.vs_bytes.specs.declared.rule.Rule.TheVariants.{Offsets}

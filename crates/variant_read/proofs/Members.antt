@@ -1,0 +1,132 @@
+-- The members of an object that was judged: their names are the dictionary's, and rise.
+use Rattle.std.proofs.Common.{◌≡◌, ◌∙◌, ◌⊎◌, inl, inr, refl, sym, ap, subst, ℕ, zero, suc, pred, ◌+◌, ◌<◌, ◌≤◌, List, [], ◌∷◌, length, Bool, true, false, cond, None, Some, bytes_eq, arith}
+use Rattle.std.specs.Prelude.{slice_get, nat_le, ◌==◌, is_ok}
+use Rattle.std.proofs.lemmas.Bool.Decides.{nat_tests}
+use Rattle.json_tree.specs.Json.{Json, parts_of, fields_of, depth_of, parts_depth, fields_depth}
+use Rattle.vs_bytes.specs.declared.rule.Rule.TheVariants.{FieldId, FieldOrder}
+use Rattle.variant_meta.specs.Names.{is_before, rise_after, names_rise, place_of}
+use Rattle.variant_read.specs.Layout.{is_object, count, field_id}
+use Rattle.variant_read.specs.Meaning.{field_name, field_fault, members_from}
+use Rattle.variant_read.specs.Items.{items_in, items_held, members_held, member_names, member_values}
+use Rattle.variant_read.specs.Trees.{member_named}
+use Rattle.variant_read.proofs.Items.{item_allowed, held_len}
+
+-- What the id of a field says that was judged.
+
+record Allowed (names : List (List ℕ)) (bytes : List ℕ) (k : ℕ) : Type 0 where
+  known : field_id bytes k < length names
+  above : (k ≡ 0) ⊎ (is_before (field_name names bytes (pred k)) (field_name names bytes k) ≡ true)
+
+allowed : (names : List (List ℕ)) (bytes : List ℕ) (k : ℕ) → is_object bytes ≡ true → field_fault names bytes k ≡ None → Allowed names bytes k
+unfolding field_fault
+allowed names bytes k object h =
+    let e : field_fault names bytes k ≡ cond (nat_le (length names) (field_id bytes k)) (Some FieldId) (cond (k == 0) None (cond (is_before (field_name names bytes (pred k)) (field_name names bytes k)) None (Some FieldOrder))) = rw object refl in
+    by_known (nat_le (length names) (field_id bytes k)) refl (sym e ∙ h)
+  where
+    by_order : field_id bytes k < length names → (b : Bool) → is_before (field_name names bytes (pred k)) (field_name names bytes k) ≡ b → cond b None (Some FieldOrder) ≡ None → Allowed names bytes k
+    by_order known true is e = record { known = known; above = inr is }
+    by_order known false is e = absurd (cc)
+
+    by_first : field_id bytes k < length names → (b : Bool) → (k == 0) ≡ b → cond b None (cond (is_before (field_name names bytes (pred k)) (field_name names bytes k)) None (Some FieldOrder)) ≡ None → Allowed names bytes k
+    by_first known true is e = record { known = known; above = inl (grind (arith, nat_tests)) }
+    by_first known false is e = by_order known (is_before (field_name names bytes (pred k)) (field_name names bytes k)) refl e
+
+    by_known : (b : Bool) → nat_le (length names) (field_id bytes k) ≡ b → cond b (Some FieldId) (cond (k == 0) None (cond (is_before (field_name names bytes (pred k)) (field_name names bytes k)) None (Some FieldOrder))) ≡ None → Allowed names bytes k
+    by_known true is e = absurd (cc)
+    by_known false is e = by_first (grind (arith, nat_tests)) (k == 0) refl e
+
+pub id_known : (names : List (List ℕ)) (room : ℕ) (bytes : List ℕ) (k : ℕ) → is_object bytes ≡ true → is_ok (items_in names room bytes) ≡ true → k < count bytes → field_id bytes k < length names
+id_known names room bytes k object ok inside = (allowed names bytes k object (item_allowed names room bytes k ok inside)).known
+
+above_last : (names : List (List ℕ)) (room : ℕ) (bytes : List ℕ) (k : ℕ) → is_object bytes ≡ true → is_ok (items_in names room bytes) ≡ true → suc k < count bytes → is_before (field_name names bytes k) (field_name names bytes (suc k)) ≡ true
+above_last names room bytes k object ok inside = by (allowed names bytes (suc k) object (item_allowed names room bytes (suc k) ok inside)).above
+  where
+    by : (suc k ≡ 0) ⊎ (is_before (field_name names bytes k) (field_name names bytes (suc k)) ≡ true) → is_before (field_name names bytes k) (field_name names bytes (suc k)) ≡ true
+    by (inl e) = absurd (omega (arith, e))
+    by (inr h) = h
+
+-- The list of members.
+
+members_len : (names : List (List ℕ)) (bytes : List ℕ) (i : ℕ) (items : List Json) → length (members_from names bytes i items) ≡ length items
+unfolding members_from
+members_len names bytes i [] = refl
+members_len names bytes i (item ∷ items) = ap suc (members_len names bytes (suc i) items)
+
+values_are : (names : List (List ℕ)) (bytes : List ℕ) (i : ℕ) (items : List Json) → member_values (members_from names bytes i items) ≡ items
+unfolding members_from
+values_are names bytes i [] = refl
+values_are names bytes i (item ∷ items) = ap (λ (rest : List Json). item ∷ rest) (values_are names bytes (suc i) items)
+
+name_is : (names : List (List ℕ)) (bytes : List ℕ) (i : ℕ) (items : List Json) (k : ℕ) → k < length items → slice_get (member_names (members_from names bytes i items)) k ≡ Some (field_name names bytes (i + k))
+unfolding members_from
+name_is names bytes i [] k h = absurd (omega (arith, h))
+name_is names bytes i (item ∷ items) zero h = let e : i + zero ≡ i = omega arith in rw e refl
+name_is names bytes i (item ∷ items) (suc k) h =
+    let e : i + suc k ≡ suc i + k = omega arith in
+    rw e (name_is names bytes (suc i) items k (omega (arith, h)))
+
+rise_from : (names : List (List ℕ)) (bytes : List ℕ) (i : ℕ) (items : List Json) → ((k : ℕ) → k < length items → is_before (field_name names bytes (i + k)) (field_name names bytes (suc (i + k))) ≡ true) → rise_after (field_name names bytes i) (member_names (members_from names bytes (suc i) items)) ≡ true
+unfolding members_from
+rise_from names bytes i [] each = refl
+rise_from names bytes i (item ∷ items) each =
+    let start : i + 0 ≡ i = omega arith in
+    let one : is_before (field_name names bytes i) (field_name names bytes (suc i)) ≡ true = subst (λ (j : ℕ). is_before (field_name names bytes j) (field_name names bytes (suc j)) ≡ true) start (each 0 (omega arith)) in
+    rw one (rise_from names bytes (suc i) items (λ k h. let e : i + suc k ≡ suc i + k = omega arith in subst (λ (j : ℕ). is_before (field_name names bytes j) (field_name names bytes (suc j)) ≡ true) e (each (suc k) (omega (arith, h)))))
+
+pub held_members_len : (names : List (List ℕ)) (room : ℕ) (bytes : List ℕ) → is_ok (items_in names room bytes) ≡ true → length (members_held names room bytes) ≡ count bytes
+unfolding members_held
+held_members_len names room bytes ok = members_len names bytes 0 (items_held names room bytes) ∙ held_len names room bytes ok
+
+pub held_names_rise : (names : List (List ℕ)) (room : ℕ) (bytes : List ℕ) → is_object bytes ≡ true → is_ok (items_in names room bytes) ≡ true → names_rise (member_names (members_held names room bytes)) ≡ true
+unfolding members_held members_from
+held_names_rise names room bytes object ok = by (items_held names room bytes) (held_len names room bytes ok)
+  where
+    by : (items : List Json) → length items ≡ count bytes → names_rise (member_names (members_from names bytes 0 items)) ≡ true
+    by [] len = refl
+    by (item ∷ items) len =
+        rise_from names bytes 0 items (λ k h. let e : 0 + k ≡ k = omega arith in rw e (above_last names room bytes k object ok (omega (arith, h, len))))
+
+-- the name and the value of a place
+
+pub member_name_listed : (names : List (List ℕ)) (room : ℕ) (bytes : List ℕ) (k : ℕ) → is_ok (items_in names room bytes) ≡ true → k < count bytes → slice_get (member_names (members_held names room bytes)) k ≡ Some (field_name names bytes k)
+unfolding members_held
+member_name_listed names room bytes k ok inside =
+    let len = held_len names room bytes ok in
+    let start : 0 + k ≡ k = omega arith in
+    name_is names bytes 0 (items_held names room bytes) k (omega (arith, inside, len)) ∙ ap (λ (i : ℕ). Some (field_name names bytes i)) start
+
+pub held_values : (names : List (List ℕ)) (room : ℕ) (bytes : List ℕ) → member_values (members_held names room bytes) ≡ items_held names room bytes
+unfolding members_held
+held_values names room bytes = values_are names bytes 0 (items_held names room bytes)
+
+-- The member of a name, by its place.
+
+pub named_there : (name : List ℕ) (members : List (List ℕ × Json)) (k : ℕ) (j : Json) → place_of (member_names members) name ≡ k → slice_get (member_values members) k ≡ Some j → member_named name members ≡ Some j
+named_there name [] k j e h = absurd (cc)
+named_there name (member ∷ members) k j e h = by (bytes_eq member.0 name) k e h (λ n. named_there name members n j)
+  where
+    by : (b : Bool) (k : ℕ) → cond b 0 (suc (place_of (member_names members) name)) ≡ k → slice_get (member.1 ∷ member_values members) k ≡ Some j → ((n : ℕ) → place_of (member_names members) name ≡ n → slice_get (member_values members) n ≡ Some j → member_named name members ≡ Some j) → cond b (Some member.1) (member_named name members) ≡ Some j
+    by true zero e h rest = h
+    by true (suc k) e h rest = absurd (omega (arith, e))
+    by false zero e h rest = absurd (omega (arith, e))
+    by false (suc k) e h rest = rest k (omega (arith, e)) h
+
+pub named_nowhere : (name : List ℕ) (members : List (List ℕ × Json)) → place_of (member_names members) name ≡ length members → member_named name members ≡ None
+named_nowhere name [] e = refl
+named_nowhere name (member ∷ members) e = by (bytes_eq member.0 name) e (named_nowhere name members)
+  where
+    by : (b : Bool) → cond b 0 (suc (place_of (member_names members) name)) ≡ suc (length members) → (place_of (member_names members) name ≡ length members → member_named name members ≡ None) → cond b (Some member.1) (member_named name members) ≡ None
+    by true e rest = absurd (omega (arith, e))
+    by false e rest = rest (omega (arith, e))
+
+-- What is inside nests less deep.
+
+pub item_depth : (items : List Json) (k : ℕ) (j : Json) → slice_get items k ≡ Some j → depth_of j ≤ parts_depth (parts_of items)
+item_depth [] k j h = absurd (cc)
+item_depth (item ∷ items) zero j h = let e : item ≡ j = cc in rw (sym e) (omega arith)
+item_depth (item ∷ items) (suc k) j h = let less = item_depth items k j h in omega (arith, less)
+
+pub member_depth : (members : List (List ℕ × Json)) (k : ℕ) (j : Json) → slice_get (member_values members) k ≡ Some j → depth_of j ≤ fields_depth (fields_of members)
+member_depth [] k j h = absurd (cc)
+member_depth (member ∷ members) zero j h = let e : member.1 ≡ j = cc in rw (sym e) (omega arith)
+member_depth (member ∷ members) (suc k) j h = let less = member_depth members k j h in omega (arith, less)
