@@ -1,3 +1,4 @@
 pub mod Items
 pub mod Members
+pub mod Rooms
 pub mod Samples

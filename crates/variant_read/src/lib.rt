@@ -1,2 +1,4 @@
 //! Variant values, read in place.
 #![tactic(auto)]
+
+mod layout;
