@@ -93,3 +93,7 @@ means names bytes above = value_within names (max_nesting - above) bytes
 -- the value alone
 abbrev pub json_in : Meaning → Result Json Rule
 json_in meaning = meaning >>= λ read. Ok read.0
+
+-- how many bytes it has
+abbrev pub size_in : Meaning → Result ℕ Rule
+size_in meaning = meaning >>= λ read. Ok read.1

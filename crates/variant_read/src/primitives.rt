@@ -1,0 +1,127 @@
+//! The values that hold no others: how many bytes each has, or the rule that it violates.
+
+ghost use Rattle.std.specs.Prelude.{◌≡◌, ◌<◌, ◌≤◌, ◌^◌, length};
+ghost use Rattle.variant_read.specs.Meaning.{size_in};
+ghost use Rattle.variant_read.specs.Primitives.{integer_kind, decimal_kind, text_at, short_string, string_kind, kind_of, primitive};
+
+use crate::layout::type_header;
+use exact_num::Unscaled;
+use vs_bytes::{Rule, cut, is_utf8, number_at};
+
+// The greatest scale of a decimal.
+const MAX_SCALE: u8 = 38;
+
+// An unscaled integer of a decimal is less, without its sign.
+const UNSCALED_BOUND: u128 = 100_000_000_000_000_000_000_000_000_000_000_000_000;
+
+// The greatest type id of the standard.
+const LAST_TYPE_ID: u8 = 20;
+
+#[tactic(auto, unfolding(crate::specs::Primitives::integer_kind))]
+fn integer(bytes: &[u8], width: usize) -> Result<usize, Rule>
+    requires { width ≤ 8 }
+    ensures { result ≡ size_in (integer_kind width bytes.now) }
+{
+    if bytes.len() < 1 + width {
+        return Err(Rule::ValueShort);
+    }
+    Ok(1 + width)
+}
+
+// A decimal whose integer has few bytes has few digits.
+#[tactic(auto, using(crate::proofs::Unscaleds::small_read), unfolding(crate::specs::Primitives::decimal_kind))]
+fn small_decimal(bytes: &[u8], width: usize) -> Result<usize, Rule>
+    requires { width ≤ 8 }
+    ensures { result ≡ size_in (decimal_kind width bytes.now) }
+{
+    if bytes.len() < 2 + width {
+        return Err(Rule::ValueShort);
+    }
+    if bytes[1] > MAX_SCALE {
+        return Err(Rule::DecimalScale);
+    }
+    Ok(2 + width)
+}
+
+#[tactic(auto, unfolding(crate::specs::Primitives::decimal_kind))]
+fn wide_decimal(bytes: &[u8]) -> Result<usize, Rule>
+    ensures { result ≡ size_in (decimal_kind 16 bytes.now) }
+{
+    if bytes.len() < 18 {
+        return Err(Rule::ValueShort);
+    }
+    if bytes[1] > MAX_SCALE {
+        return Err(Rule::DecimalScale);
+    }
+    if Unscaled::<16>::little(bytes, 2).unsigned_abs() >= UNSCALED_BOUND {
+        return Err(Rule::DecimalDigits);
+    }
+    Ok(18)
+}
+
+#[tactic(auto, unfolding(crate::specs::Primitives::text_at))]
+fn text(bytes: &[u8], at: usize, len: usize) -> Result<usize, Rule>
+    requires at { at ≤ 5 }
+    requires len { len < 2 ^ 32 }
+    ensures { result ≡ size_in (text_at at len bytes.now) }
+{
+    let Some(text) = cut(bytes, at, len) else {
+        return Err(Rule::ValueShort);
+    };
+    if is_utf8(text) {
+        Ok(at + len)
+    } else {
+        Err(Rule::TextUtf8)
+    }
+}
+
+#[tactic(auto, unfolding(crate::specs::Primitives::short_string))]
+pub(crate) fn short_string(bytes: &[u8]) -> Result<usize, Rule>
+    requires { 0 < length bytes.now }
+    ensures { result ≡ size_in (short_string bytes.now) }
+{
+    text(bytes, 1, usize::from(type_header(bytes)))
+}
+
+#[tactic(auto, unfolding(crate::specs::Primitives::string_kind, crate::specs::Primitives::text_at))]
+fn string(bytes: &[u8]) -> Result<usize, Rule>
+    ensures { result ≡ size_in (string_kind bytes.now) }
+{
+    if bytes.len() < 5 {
+        return Err(Rule::ValueShort);
+    }
+    text(bytes, 5, number_at(bytes, 1, 4) as usize)
+}
+
+#[tactic(auto, unfolding(crate::specs::Primitives::kind_of, crate::specs::Primitives::constant_kind, crate::specs::Primitives::unread_kind))]
+fn kind_of(bytes: &[u8], id: u8) -> Result<usize, Rule>
+    ensures { result ≡ size_in (kind_of id bytes.now) }
+{
+    match id {
+        0 | 1 | 2 => Ok(1),
+        3 => integer(bytes, 1),
+        4 => integer(bytes, 2),
+        5 => integer(bytes, 4),
+        6 => integer(bytes, 8),
+        7 | 14 => Err(Rule::FloatLeftOut),
+        8 => small_decimal(bytes, 4),
+        9 => small_decimal(bytes, 8),
+        10 => wide_decimal(bytes),
+        16 => string(bytes),
+        _ => {
+            if id <= LAST_TYPE_ID {
+                Err(Rule::KindNotRead)
+            } else {
+                Err(Rule::TypeId)
+            }
+        }
+    }
+}
+
+#[tactic(auto, unfolding(crate::specs::Primitives::primitive))]
+pub(crate) fn primitive(bytes: &[u8]) -> Result<usize, Rule>
+    requires { 0 < length bytes.now }
+    ensures { result ≡ size_in (primitive bytes.now) }
+{
+    kind_of(bytes, type_header(bytes))
+}
