@@ -3,3 +3,4 @@ pub mod Layout
 pub mod Meaning
 pub mod Primitives
 pub mod Trees
+pub mod View

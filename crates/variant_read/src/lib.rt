@@ -3,3 +3,6 @@
 
 mod layout;
 mod primitives;
+mod views;
+
+pub use views::{ArrayView, ObjectView, ValueRef};

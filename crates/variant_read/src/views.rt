@@ -1,0 +1,45 @@
+//! Values that were judged, read in place.
+
+ghost use Rattle.std.specs.Prelude.{◌≡◌, true, false, is_ok};
+ghost use Rattle.variant_meta.specs.MetaRefs.{names_of};
+ghost use Rattle.variant_read.specs.Layout.{is_object};
+ghost use Rattle.variant_read.specs.Items.{items_in};
+
+use crate::layout::Layout;
+use exact_num::Number;
+use variant_meta::MetaRef;
+
+/// A Variant value, read in place.
+#[derive(Clone, Copy)]
+pub enum ValueRef<'a> {
+    Null,
+    Bool(bool),
+    Num(Number),
+    Text(&'a str),
+    Object(ObjectView<'a>),
+    Array(ArrayView<'a>),
+}
+
+/// An object or array whose items are values.
+#[derive(Clone, Copy)]
+pub(crate) struct Container<'a> {
+    pub(crate) layout: Layout<'a>,
+    pub(crate) meta: MetaRef<'a>,
+    // How deep arrays and objects may nest inside.
+    pub(crate) room: u8,
+    ghost judged: { is_ok (items_in (names_of meta) room layout.bytes.now) ≡ true },
+}
+
+/// The elements of an array, in order.
+#[derive(Clone, Copy)]
+pub struct ArrayView<'a> {
+    pub(crate) of: Container<'a>,
+    ghost array: { is_object of.layout.bytes.now ≡ false },
+}
+
+/// The fields of an object, in the order of their names.
+#[derive(Clone, Copy)]
+pub struct ObjectView<'a> {
+    pub(crate) of: Container<'a>,
+    ghost object: { is_object of.layout.bytes.now ≡ true },
+}
