@@ -1,4 +1,5 @@
 pub mod Items
+pub mod Judged
 pub mod Members
 pub mod Rooms
 pub mod Samples

@@ -12,7 +12,7 @@ half_most : (w : ℕ) → half w ≤ 256 ^ w
 unfolding half
 half_most w = omega arith
 
-reach_most : (w n : ℕ) → w ≤ 8 → unsigned_abs (signed_number w n) < unscaled_bound
+pub reach_most : (w n : ℕ) → w ≤ 8 → unsigned_abs (signed_number w n) < unscaled_bound
 unfolding signed_number
 reach_most w n h =
     let top : 256 ^ w ≤ 256 ^ 8 = pow-le-pow_right {n = 256} (lit< tt) h in

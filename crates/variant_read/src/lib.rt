@@ -3,6 +3,7 @@
 
 mod layout;
 mod primitives;
+mod scalars;
 mod views;
 
 pub use views::{ArrayView, ObjectView, ValueRef};

@@ -1,0 +1,95 @@
+//! The values that hold no others, where they were judged.
+
+ghost use Rattle.std.specs.Prelude.{◌≡◌, ◌<◌, ◌≤◌, true, is_ok, Ok, length};
+ghost use Rattle.vs_bytes.specs.Numbers.{IsPart, part};
+ghost use Rattle.exact_num.specs.NumberOf.{decimal_of};
+ghost use Rattle.json_tree.specs.Json.{number};
+ghost use Rattle.variant_read.specs.Primitives.{integer_kind, decimal_kind, text_at, string_kind, kind_of, short_string, primitive};
+ghost use Rattle.variant_read.specs.Meaning.{json_in};
+ghost use Rattle.variant_read.specs.View.{json_of, LiesIn};
+
+use crate::layout::type_header;
+use crate::views::ValueRef;
+use exact_num::{Number, Unscaled};
+use vs_bytes::{number_at, part};
+
+#[tactic(auto, using(crate::proofs::Judged::integer_there, crate::proofs::Judged::integer_means, crate::proofs::Judged::integer_digits), unfolding(crate::specs::Primitives::decimal))]
+fn integer<const W: usize>(bytes: &[u8]) -> Number
+    requires least { 1 ≤ W }
+    requires most { W ≤ 8 }
+    requires judged { is_ok (integer_kind W bytes.now) ≡ true }
+    ensures { json_in (integer_kind W bytes.now) ≡ Ok (number (decimal_of result)) }
+{
+    Number::of(Unscaled::<W>::little(bytes, 1), 0)
+}
+
+#[tactic(auto, using(crate::proofs::Judged::decimal_there, crate::proofs::Judged::decimal_scale, crate::proofs::Judged::decimal_digits, crate::proofs::Judged::decimal_means), unfolding(crate::specs::Primitives::decimal))]
+fn decimal<const W: usize>(bytes: &[u8]) -> Number
+    requires least { 1 ≤ W }
+    requires most { W ≤ 16 }
+    requires judged { is_ok (decimal_kind W bytes.now) ≡ true }
+    ensures { json_in (decimal_kind W bytes.now) ≡ Ok (number (decimal_of result)) }
+{
+    Number::of(Unscaled::<W>::little(bytes, 2), bytes[1])
+}
+
+#[tactic(auto, using(crate::proofs::Judged::text_there, crate::proofs::Judged::text_utf8, crate::proofs::Judged::text_means))]
+fn text(bytes: &[u8], at: usize, len: usize) -> &str
+    requires { is_ok (text_at at len bytes.now) ≡ true }
+    ensures value { result.now ≡ part bytes.now at len }
+    ensures inside { IsPart result.now bytes.now }
+{
+    let text = part(bytes, at, len);
+    unsafe { std::str::from_utf8_unchecked(text) }
+}
+
+#[tactic(auto, using(crate::proofs::Judged::text_means), unfolding(crate::specs::Primitives::short_string))]
+pub(crate) fn opened_short_string(bytes: &[u8]) -> ValueRef<'_>
+    requires there { 0 < length bytes.now }
+    requires judged { is_ok (short_string bytes.now) ≡ true }
+    ensures value { json_in (short_string bytes.now) ≡ Ok (json_of result) }
+    ensures inside { LiesIn result bytes.now }
+{
+    ValueRef::Text(text(bytes, 1, usize::from(type_header(bytes))))
+}
+
+#[tactic(auto, using(crate::proofs::Judged::text_there, crate::proofs::Judged::text_means), unfolding(crate::specs::Primitives::string_kind))]
+fn opened_string(bytes: &[u8]) -> ValueRef<'_>
+    requires { is_ok (string_kind bytes.now) ≡ true }
+    ensures value { json_in (string_kind bytes.now) ≡ Ok (json_of result) }
+    ensures inside { LiesIn result bytes.now }
+{
+    ValueRef::Text(text(bytes, 5, number_at(bytes, 1, 4) as usize))
+}
+
+#[tactic(auto, unfolding(crate::specs::Primitives::kind_of, crate::specs::Primitives::constant_kind, crate::specs::Primitives::unread_kind))]
+fn opened_kind(bytes: &[u8], id: u8) -> ValueRef<'_>
+    requires { is_ok (kind_of id bytes.now) ≡ true }
+    ensures value { json_in (kind_of id bytes.now) ≡ Ok (json_of result) }
+    ensures inside { LiesIn result bytes.now }
+{
+    match id {
+        0 => ValueRef::Null,
+        1 => ValueRef::Bool(true),
+        2 => ValueRef::Bool(false),
+        3 => ValueRef::Num(integer::<1>(bytes)),
+        4 => ValueRef::Num(integer::<2>(bytes)),
+        5 => ValueRef::Num(integer::<4>(bytes)),
+        6 => ValueRef::Num(integer::<8>(bytes)),
+        8 => ValueRef::Num(decimal::<4>(bytes)),
+        9 => ValueRef::Num(decimal::<8>(bytes)),
+        10 => ValueRef::Num(decimal::<16>(bytes)),
+        16 => opened_string(bytes),
+        _ => unreachable!(),
+    }
+}
+
+#[tactic(auto, unfolding(crate::specs::Primitives::primitive))]
+pub(crate) fn opened_primitive(bytes: &[u8]) -> ValueRef<'_>
+    requires there { 0 < length bytes.now }
+    requires judged { is_ok (primitive bytes.now) ≡ true }
+    ensures value { json_in (primitive bytes.now) ≡ Ok (json_of result) }
+    ensures inside { LiesIn result bytes.now }
+{
+    opened_kind(bytes, type_header(bytes))
+}
