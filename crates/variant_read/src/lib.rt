@@ -2,6 +2,7 @@
 #![tactic(auto)]
 
 mod layout;
+mod opening;
 mod primitives;
 mod scalars;
 mod views;
