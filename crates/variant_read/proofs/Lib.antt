@@ -6,3 +6,4 @@ pub mod Members
 pub mod Rooms
 pub mod Samples
 pub mod Unscaleds
+pub mod Walk

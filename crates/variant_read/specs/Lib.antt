@@ -1,4 +1,5 @@
 pub mod Items
+pub mod Judging
 pub mod Layout
 pub mod Meaning
 pub mod Primitives

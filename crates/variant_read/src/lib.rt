@@ -1,6 +1,7 @@
 //! Variant values, read in place.
 #![tactic(auto)]
 
+mod judging;
 mod layout;
 mod opening;
 mod primitives;
