@@ -6,4 +6,5 @@ pub mod Members
 pub mod Rooms
 pub mod Samples
 pub mod Unscaleds
+pub mod Viewed
 pub mod Walk

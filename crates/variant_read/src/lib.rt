@@ -6,6 +6,8 @@ mod layout;
 mod opening;
 mod primitives;
 mod scalars;
+mod viewing;
 mod views;
 
+pub use viewing::view;
 pub use views::{ArrayView, ObjectView, ValueRef};
