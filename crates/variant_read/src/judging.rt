@@ -28,15 +28,15 @@ fn is_before(name: &[u8], other: &[u8]) -> bool
 // The name of field `k`. `before` is that of the field before.
 #[tactic(auto, using(crate::proofs::Walk::field_unknown, crate::proofs::Walk::field_first, crate::proofs::Walk::field_on, crate::proofs::Walk::field_back), unfolding(crate::specs::Meaning::field_name))]
 fn field_name<'a>(
-    meta: MetaRef<'a>,
+    meta: &MetaRef<'a>,
     layout: Layout,
     k: usize,
     before: &[u8],
 ) -> Result<&'a [u8], Rule>
     requires object { layout.object ≡ true }
     requires inside { k < layout.len }
-    requires before { 0 < k → before.now ≡ field_name (names_of meta) layout.bytes.now (k - 1) }
-    ensures { Gives (λ name. name.now) result (named_field (names_of meta.entry) layout.entry.bytes.now k) }
+    requires before { 0 < k → before.now ≡ field_name (names_of meta.now) layout.bytes.now (k - 1) }
+    ensures { Gives (λ name. name.now) result (named_field (names_of meta.now) layout.entry.bytes.now k) }
 {
     let id = layout.field_id(k);
     if id as usize >= meta.len() {
@@ -55,10 +55,11 @@ fn field_name<'a>(
 
 // The length of the items with one more, which begins at `at`.
 #[cycle(judging)]
+#[inline(always)]
 #[tactic(auto, using(std::proofs::lemmas::Bool::Decides::nat_tests), unfolding(crate::specs::Judging::used_with))]
-fn with_item(meta: MetaRef, region: &[u8], at: usize, used: usize, room: u8) -> Result<usize, Rule>
+fn with_item(meta: &MetaRef, region: &[u8], at: usize, used: usize, room: u8) -> Result<usize, Rule>
     requires { used ≤ length region.now }
-    ensures value { result ≡ used_with (value_within (names_of meta.entry) room) region.now used at }
+    ensures value { result ≡ used_with (value_within (names_of meta.now) room) region.now used at }
     ensures within { IfOk result (λ all. all ≤ length region.now) }
 {
     if region.len() < at {
@@ -73,9 +74,9 @@ fn with_item(meta: MetaRef, region: &[u8], at: usize, used: usize, room: u8) -> 
 
 #[cycle(judging)]
 #[tactic(auto, using(crate::proofs::Walk::left_end, crate::proofs::Walk::left_whole, crate::proofs::Walk::element_turn, std::proofs::lemmas::Bool::Decides::nat_tests))]
-fn elements(meta: MetaRef, layout: Layout, room: u8) -> Result<usize, Rule>
+fn elements(meta: &MetaRef, layout: Layout, room: u8) -> Result<usize, Rule>
     requires { layout.object ≡ false }
-    ensures { result ≡ size_in (container (names_of meta.entry) (value_within (names_of meta.entry) room) layout.entry.bytes.now) }
+    ensures { result ≡ size_in (container (names_of meta.now) (value_within (names_of meta.now) room) layout.entry.bytes.now) }
 {
     let region = layout.region();
     let mut used = 0;
@@ -87,9 +88,9 @@ fn elements(meta: MetaRef, layout: Layout, room: u8) -> Result<usize, Rule>
 
 #[cycle(judging)]
 #[tactic(auto, using(crate::proofs::Walk::left_end, crate::proofs::Walk::left_whole, crate::proofs::Walk::field_turn, std::proofs::lemmas::Bool::Decides::nat_tests))]
-fn fields(meta: MetaRef, layout: Layout, room: u8) -> Result<usize, Rule>
+fn fields(meta: &MetaRef, layout: Layout, room: u8) -> Result<usize, Rule>
     requires { layout.object ≡ true }
-    ensures { result ≡ size_in (container (names_of meta.entry) (value_within (names_of meta.entry) room) layout.entry.bytes.now) }
+    ensures { result ≡ size_in (container (names_of meta.now) (value_within (names_of meta.now) room) layout.entry.bytes.now) }
 {
     let region = layout.region();
     let mut used = 0;
@@ -102,11 +103,12 @@ fn fields(meta: MetaRef, layout: Layout, room: u8) -> Result<usize, Rule>
 }
 
 #[cycle(judging)]
+#[inline(never)]
 #[tactic(auto, using(crate::proofs::Walk::value_too_deep, crate::proofs::Walk::value_inside, crate::proofs::Walk::short_whole))]
-fn container(meta: MetaRef, bytes: &[u8], room: u8) -> Result<usize, Rule>
+fn container(meta: &MetaRef, bytes: &[u8], room: u8) -> Result<usize, Rule>
     requires there { 0 < length bytes.now }
     requires basic { 2 ≤ basic_type bytes.now }
-    ensures { result ≡ size_in (value_within (names_of meta.entry) room bytes.now) }
+    ensures { result ≡ size_in (value_within (names_of meta.now) room bytes.now) }
 {
     if room == 0 {
         return Err(Rule::ValueTooDeep);
@@ -123,9 +125,10 @@ fn container(meta: MetaRef, bytes: &[u8], room: u8) -> Result<usize, Rule>
 
 /// How many bytes the value at the front of `bytes` has, inside which arrays and objects may nest `room` deep.
 #[cycle(judging)]
+#[inline(always)]
 #[tactic(auto, using(crate::proofs::Walk::value_empty, crate::proofs::Walk::value_primitive, crate::proofs::Walk::value_short_string))]
-pub(crate) fn check(meta: MetaRef, bytes: &[u8], room: u8) -> Result<usize, Rule>
-    ensures { result ≡ size_in (value_within (names_of meta.entry) room bytes.now) }
+pub(crate) fn check(meta: &MetaRef, bytes: &[u8], room: u8) -> Result<usize, Rule>
+    ensures { result ≡ size_in (value_within (names_of meta.now) room bytes.now) }
 {
     if bytes.is_empty() {
         return Err(Rule::ValueShort);

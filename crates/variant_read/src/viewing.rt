@@ -24,7 +24,7 @@ pub fn view<'a>(meta: MetaRef<'a>, bytes: &'a [u8], above: u8) -> Result<ValueRe
     ensures inside { IfOk result (λ value. LiesIn value bytes.now) }
 {
     let room = MAX_NESTING - above;
-    match check(meta, bytes, room) {
+    match check(&meta, bytes, room) {
         Ok(_) => Ok(opened(meta, bytes, room)),
         Err(rule) => Err(rule),
     }

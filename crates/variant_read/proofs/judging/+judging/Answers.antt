@@ -6,7 +6,7 @@ use Rattle.variant_read.proofs.judging.+judging.Goals as goal
 
 pub fields-loop-k-preserved : goal.fields-loop-k-preserved
 fields-loop-k-preserved t c =
-    let names = names_of c.args.meta in
+    let names = names_of c.args.meta.now in
     let bytes = c.args.layout.bytes.now in
     record {
       within = c.in_ok-used.ensures.within;
