@@ -1,10 +1,10 @@
 -- The place of a name among names.
-use Rattle.std.proofs.Common.{◌≡◌, ◌∙◌, ◌⊎◌, inl, inr, refl, sym, ap, subst, ℕ, zero, suc, ◌+◌, ◌<◌, ◌≤◌, List, [], ◌∷◌, length, drop, Bool, true, false, ◌&&◌, bytes_eq, cond, IsUtf8, arith}
+use Rattle.std.proofs.Common.{◌≡◌, ◌∙◌, ◌⊎◌, inl, inr, refl, sym, ap, subst, ℕ, zero, suc, ◌+◌, ◌<◌, ◌≤◌, nat_lt, List, [], ◌∷◌, length, drop, Bool, true, false, ◌&&◌, bytes_eq, cond, IsUtf8, arith}
 use Rattle.std.specs.declared.cmp.Ordering.{Ordering}
 use Rattle.std.specs.declared.cmp.Ordering.TheVariants.{Less, Equal, Greater}
 use Rattle.std.specs.Ordering.{nat_cmp, is_lt, is_eq, ordering_reverse}
 use Rattle.std.specs.Cmp.Lexicographic.{slice_cmp, same_text, texts_ties}
-use Rattle.std.proofs.lemmas.Bool.{cases_lt, cases_order}
+use Rattle.std.proofs.lemmas.Bool.{cases_lt, cases_order, lt-ltb, le-ltb}
 use Rattle.std.proofs.lemmas.Cmp.{nat_list_cmp_total}
 use Rattle.std.proofs.lemmas.Str.{IsUtf8-from_is_utf8}
 use Rattle.std.specs.List.{list_all}
@@ -85,6 +85,26 @@ rises_between (name ∷ names) i zero rise low high = absurd (omega (arith, low)
 rises_between (name ∷ []) (suc i) (suc j) rise low high = absurd (omega (arith, high))
 rises_between (name ∷ other ∷ names) (suc i) (suc j) rise low high =
     rises_between (other ∷ names) i j (both (is_before name other) (rise_after other names) rise).1 (omega (arith, low)) (omega (arith, high))
+
+-- Among names that rise, places are in the order of the names.
+
+not_after : (a b : List ℕ) → is_before a b ≡ true → is_before b a ≡ false
+not_after a b h = ap is_lt (nat_list_cmp_total.antisymm b a ∙ ap ordering_reverse (less_is (slice_cmp nat_cmp a b) h))
+
+not_itself : (a : List ℕ) → is_before a a ≡ false
+not_itself a = by (is_before a a) refl
+  where
+    by : (b : Bool) → is_before a a ≡ b → b ≡ false
+    by false e = refl
+    by true e = sym e ∙ not_after a a e
+
+pub places_order : (names : List (List ℕ)) (i j : ℕ) → names_rise names ≡ true → i < length names → j < length names → is_before (name_at names i) (name_at names j) ≡ nat_lt i j
+places_order names i j rise low high = by (cases_order i j)
+  where
+    by : (i ≡ j) ⊎ ((i < j) ⊎ (j < i)) → is_before (name_at names i) (name_at names j) ≡ nat_lt i j
+    by (inl e) = rw e (not_itself (name_at names j) ∙ sym (le-ltb j j (omega arith)))
+    by (inr (inl less)) = rises_between names i j rise less high ∙ sym (lt-ltb i j less)
+    by (inr (inr more)) = not_after (name_at names j) (name_at names i) (rises_between names j i rise more low) ∙ sym (le-ltb i j (omega (arith, more)))
 
 -- Where a binary search ends.
 

@@ -6,10 +6,11 @@ ghost use Rattle.std.specs.Str.{is_utf8};
 ghost use Rattle.vs_bytes.specs.Numbers.{IsPart};
 ghost use Rattle.vs_bytes.specs.Outcome.{Gives};
 ghost use Rattle.variant_meta.specs.Metadata.{sorted_strings, all_names, names};
-ghost use Rattle.variant_meta.specs.Names.{names_rise, name_at, place_of};
+ghost use Rattle.variant_meta.specs.Names.{names_rise, name_at, place_of, is_before};
 
 use crate::held_names::HeldNames;
 use crate::layout::{Layout, sorted_strings, version};
+use crate::name_order::is_before;
 use vs_bytes::Rule;
 
 // The version that is read.
@@ -76,6 +77,19 @@ impl<'a> MetaRef<'a> {
     {
         let name = self.held.name(id as usize);
         unsafe { std::str::from_utf8_unchecked(name) }
+    }
+
+    /// Whether the name of an id comes before that of another by bytes.
+    #[tactic(auto, using(crate::proofs::Places::places_order), unfolding(crate::specs::MetaRefs::names_of))]
+    pub fn comes_before(&self, id: u32, other: u32) -> bool
+        requires id { id < length (names_of self.now) }
+        requires other { other < length (names_of self.now) }
+        ensures { result ≡ is_before (name_at (names_of self.now) id) (name_at (names_of self.now) other) }
+    {
+        if self.sorted {
+            return id < other;
+        }
+        is_before(self.held.name(id as usize), self.held.name(other as usize))
     }
 
     // The least place of a name, or the count of all where it isn't among them.
