@@ -7,8 +7,8 @@ use Rattle.json_tree.specs.Json.{Json}
 use Rattle.vs_bytes.specs.Outcome.{◌>>=◌}
 use Rattle.vs_bytes.specs.declared.rule.Rule.{Rule}
 use Rattle.vs_bytes.specs.declared.rule.Rule.TheVariants.{ValueShort, ValueTooDeep, FieldId, FieldOrder, Offsets}
-use Rattle.variant_meta.specs.Names.{is_before}
-use Rattle.variant_read.specs.Judging.{used_with, named_field}
+use Rattle.variant_meta.specs.Names.{name_at, is_before}
+use Rattle.variant_read.specs.Judging.{used_with, allowed_id}
 use Rattle.variant_read.specs.Layout.{basic_type, is_object, count, field_id, offset, region, fixed_size, last_offset, container_size}
 use Rattle.variant_read.specs.Primitives.{Kind, Meaning, primitive, short_string, unread_kind}
 use Rattle.variant_read.specs.Meaning.{field_name, field_fault, entries_from, entries, unless_fault, items_at, with_items, container, size_in, by_basic_type, value_of, value_within}
@@ -72,11 +72,11 @@ pub element_turn : (value : Kind) (names : List (List ℕ)) (bytes : List ℕ) (
 unfolding field_fault
 element_turn value names bytes k used is inside = turned value names bytes k used inside ∙ rw is refl
 
-pub field_turn : (value : Kind) (names : List (List ℕ)) (bytes : List ℕ) (k used : ℕ) → k < count bytes → left value names bytes k used ≡ (named_field names bytes k >>= λ _. from_item value names bytes k used)
-unfolding named_field
+pub field_turn : (value : Kind) (names : List (List ℕ)) (bytes : List ℕ) (k used : ℕ) → k < count bytes → left value names bytes k used ≡ (allowed_id names bytes k >>= λ _. from_item value names bytes k used)
+unfolding allowed_id
 field_turn value names bytes k used inside = turned value names bytes k used inside ∙ by (field_fault names bytes k)
   where
-    by : (f : Option Rule) → (unless_fault f >>= λ _. from_item value names bytes k used) ≡ ((unless_fault f >>= λ _. Ok (field_name names bytes k)) >>= λ _. from_item value names bytes k used)
+    by : (f : Option Rule) → (unless_fault f >>= λ _. from_item value names bytes k used) ≡ ((unless_fault f >>= λ _. Ok (field_id bytes k)) >>= λ _. from_item value names bytes k used)
     by None = refl
     by (Some rule) = refl
 
@@ -84,37 +84,40 @@ above : (n k : ℕ) → k < n → (n == k) ≡ false
 above n k h = grind (arith, nat_tests)
 
 -- what is known after a turn
-pub field_passed : (value : Kind) (names : List (List ℕ)) (bytes : List ℕ) (k used : ℕ) (name : List ℕ) (all : ℕ) (whole : Result ℕ Rule) → whole ≡ left value names bytes k used → k < count bytes → named_field names bytes k ≡ Ok name → used_with value (region bytes) used (offset bytes k) ≡ Ok all → whole ≡ left value names bytes (k + 1) all
-field_passed value names bytes k used name all whole start inside named with = start ∙ field_turn value names bytes k used inside ∙ rw (named, with) refl
+pub field_passed : (value : Kind) (names : List (List ℕ)) (bytes : List ℕ) (k used id all : ℕ) (whole : Result ℕ Rule) → whole ≡ left value names bytes k used → k < count bytes → allowed_id names bytes k ≡ Ok id → used_with value (region bytes) used (offset bytes k) ≡ Ok all → whole ≡ left value names bytes (k + 1) all
+field_passed value names bytes k used id all whole start inside allowed with = start ∙ field_turn value names bytes k used inside ∙ rw (allowed, with) refl
 
-pub name_given : (names : List (List ℕ)) (bytes : List ℕ) (k : ℕ) (name : List ℕ) → named_field names bytes k ≡ Ok name → name ≡ field_name names bytes (k + 1 - 1)
-unfolding named_field
-name_given names bytes k name e = let one : k + 1 - 1 ≡ k = omega arith in rw one (by (field_fault names bytes k) e)
+pub id_given : (names : List (List ℕ)) (bytes : List ℕ) (k id : ℕ) → allowed_id names bytes k ≡ Ok id → id ≡ field_id bytes (k + 1 - 1)
+unfolding allowed_id
+id_given names bytes k id e = let one : k + 1 - 1 ≡ k = omega arith in rw one (by (field_fault names bytes k) e)
   where
-    by : (f : Option Rule) → (unless_fault f >>= λ _. Ok (field_name names bytes k)) ≡ Ok name → name ≡ field_name names bytes k
+    by : (f : Option Rule) → (unless_fault f >>= λ _. Ok (field_id bytes k)) ≡ Ok id → id ≡ field_id bytes k
     by None h = cc
     by (Some rule) h = absurd (cc)
 
-pub field_unknown : (names : List (List ℕ)) (bytes : List ℕ) (k : ℕ) → is_object bytes ≡ true → length names ≤ field_id bytes k → named_field names bytes k ≡ Err FieldId
-unfolding named_field field_fault
-field_unknown names bytes k is past = rw (is, le-leb (length names) (field_id bytes k) past) refl
+-- The id of a field.
 
-pub field_first : (names : List (List ℕ)) (bytes : List ℕ) (k : ℕ) → is_object bytes ≡ true → field_id bytes k < length names → k ≡ 0 → named_field names bytes k ≡ Ok (field_name names bytes k)
-unfolding named_field field_fault
-field_first names bytes k is known e = rw (is, lt-leb (length names) (field_id bytes k) known, e) refl
+pub id_unknown : (names : List (List ℕ)) (bytes : List ℕ) (k : ℕ) → is_object bytes ≡ true → length names ≤ field_id bytes k → allowed_id names bytes k ≡ Err FieldId
+unfolding allowed_id field_fault
+id_unknown names bytes k is past = rw (is, le-leb (length names) (field_id bytes k) past) refl
 
-before_is : (names : List (List ℕ)) (bytes : List ℕ) (k : ℕ) → 0 < k → is_before (field_name names bytes (k - 1)) (field_name names bytes k) ≡ is_before (field_name names bytes (pred k)) (field_name names bytes k)
+pub id_first : (names : List (List ℕ)) (bytes : List ℕ) (k : ℕ) → is_object bytes ≡ true → field_id bytes k < length names → k ≡ 0 → allowed_id names bytes k ≡ Ok (field_id bytes k)
+unfolding allowed_id field_fault
+id_first names bytes k is known e = rw (is, lt-leb (length names) (field_id bytes k) known, e) refl
+
+before_is : (names : List (List ℕ)) (bytes : List ℕ) (k : ℕ) → 0 < k → is_before (name_at names (field_id bytes (k - 1))) (name_at names (field_id bytes k)) ≡ is_before (field_name names bytes (pred k)) (field_name names bytes k)
+unfolding field_name
 before_is names bytes zero h = absurd (omega (arith, h))
-before_is names bytes (suc k) h = let one : suc k - 1 ≡ k = omega arith in ap (λ (j : ℕ). is_before (field_name names bytes j) (field_name names bytes (suc k))) one
+before_is names bytes (suc k) h = let one : suc k - 1 ≡ k = omega arith in ap (λ (j : ℕ). is_before (name_at names (field_id bytes j)) (name_at names (field_id bytes (suc k)))) one
 
-pub field_on : (names : List (List ℕ)) (bytes : List ℕ) (k : ℕ) → is_object bytes ≡ true → field_id bytes k < length names → 0 < k → is_before (field_name names bytes (k - 1)) (field_name names bytes k) ≡ true → named_field names bytes k ≡ Ok (field_name names bytes k)
-unfolding named_field field_fault
-field_on names bytes k is known later rises =
+pub id_on : (names : List (List ℕ)) (bytes : List ℕ) (k : ℕ) → is_object bytes ≡ true → field_id bytes k < length names → 0 < k → is_before (name_at names (field_id bytes (k - 1))) (name_at names (field_id bytes k)) ≡ true → allowed_id names bytes k ≡ Ok (field_id bytes k)
+unfolding allowed_id field_fault
+id_on names bytes k is known later rises =
     rw (is, lt-leb (length names) (field_id bytes k) known, above k 0 later, sym (before_is names bytes k later) ∙ rises) refl
 
-pub field_back : (names : List (List ℕ)) (bytes : List ℕ) (k : ℕ) → is_object bytes ≡ true → field_id bytes k < length names → 0 < k → is_before (field_name names bytes (k - 1)) (field_name names bytes k) ≡ false → named_field names bytes k ≡ Err FieldOrder
-unfolding named_field field_fault
-field_back names bytes k is known later rises =
+pub id_back : (names : List (List ℕ)) (bytes : List ℕ) (k : ℕ) → is_object bytes ≡ true → field_id bytes k < length names → 0 < k → is_before (name_at names (field_id bytes (k - 1))) (name_at names (field_id bytes k)) ≡ false → allowed_id names bytes k ≡ Err FieldOrder
+unfolding allowed_id field_fault
+id_back names bytes k is known later rises =
     rw (is, lt-leb (length names) (field_id bytes k) known, above k 0 later, sym (before_is names bytes k later) ∙ rises) refl
 
 -- The kinds of value, by basic type.

@@ -1,12 +1,10 @@
 //! How many bytes a value has, or the first rule that it violates.
 
 ghost use Rattle.std.specs.Prelude.{◌≡◌, ◌<◌, ◌≤◌, ◌-◌, length, true, false, IfOk};
-ghost use Rattle.vs_bytes.specs.Outcome.{Gives};
 ghost use Rattle.variant_meta.specs.MetaRefs.{names_of};
-ghost use Rattle.variant_meta.specs.Names.{is_before};
-ghost use Rattle.variant_read.specs.Judging.{used_with, named_field};
-ghost use Rattle.variant_read.specs.Layout.{basic_type};
-ghost use Rattle.variant_read.specs.Meaning.{container, field_name, value_within, size_in};
+ghost use Rattle.variant_read.specs.Judging.{used_with, allowed_id};
+ghost use Rattle.variant_read.specs.Layout.{basic_type, field_id};
+ghost use Rattle.variant_read.specs.Meaning.{container, value_within, size_in};
 
 use crate::layout::{Layout, basic_type};
 use crate::primitives::{primitive, short_string};
@@ -18,36 +16,26 @@ const PRIMITIVE_TYPE: u8 = 0;
 
 const SHORT_STRING_TYPE: u8 = 1;
 
-// Whether a name comes before another by bytes.
-fn is_before(name: &[u8], other: &[u8]) -> bool
-    ensures { result ≡ is_before name.now other.now }
-{
-    name.cmp(other).is_lt()
-}
-
-// The name of field `k`. `before` is that of the field before.
-#[tactic(auto, using(crate::proofs::Walk::field_unknown, crate::proofs::Walk::field_first, crate::proofs::Walk::field_on, crate::proofs::Walk::field_back), unfolding(crate::specs::Meaning::field_name))]
-fn field_name<'a>(
-    meta: &MetaRef<'a>,
-    layout: Layout,
-    k: usize,
-    before: &[u8],
-) -> Result<&'a [u8], Rule>
+// The id of field `k`, whose name comes after that of `before`, the id of the field before.
+#[inline(always)]
+#[tactic(auto, using(crate::proofs::Walk::id_unknown, crate::proofs::Walk::id_first, crate::proofs::Walk::id_on, crate::proofs::Walk::id_back))]
+fn field_id(meta: &MetaRef, layout: Layout, k: usize, before: u32) -> Result<u32, Rule>
     requires object { layout.object ≡ true }
     requires inside { k < layout.len }
-    requires before { 0 < k → before.now ≡ field_name (names_of meta.now) layout.bytes.now (k - 1) }
-    ensures { Gives (λ name. name.now) result (named_field (names_of meta.now) layout.entry.bytes.now k) }
+    requires before { 0 < k → before ≡ field_id layout.bytes.now (k - 1) }
+    requires known { 0 < k → before < length (names_of meta.now) }
+    ensures value { result ≡ allowed_id (names_of meta.now) layout.entry.bytes.now k }
+    ensures known { IfOk result (λ id. id < length (names_of meta.now)) }
 {
     let id = layout.field_id(k);
     if id as usize >= meta.len() {
         return Err(Rule::FieldId);
     }
-    let name = meta.name(id).as_bytes();
     if k == 0 {
-        return Ok(name);
+        return Ok(id);
     }
-    if is_before(before, name) {
-        Ok(name)
+    if meta.comes_before(before, id) {
+        Ok(id)
     } else {
         Err(Rule::FieldOrder)
     }
@@ -94,9 +82,9 @@ fn fields(meta: &MetaRef, layout: Layout, room: u8) -> Result<usize, Rule>
 {
     let region = layout.region();
     let mut used = 0;
-    let mut before: &[u8] = &[];
+    let mut before = 0;
     for k in 0..layout.len {
-        before = field_name(meta, layout, k, before)?;
+        before = field_id(meta, layout, k, before)?;
         used = with_item(meta, region, layout.offset(k), used, room)?;
     }
     Ok(layout.size())

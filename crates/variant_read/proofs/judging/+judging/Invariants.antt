@@ -1,6 +1,7 @@
 use Rattle.std.proofs.Common.{◌≡◌, ◌+◌, ◌-◌, ◌*◌, ◌<◌, ◌≤◌, length}
 use Rattle.variant_meta.specs.MetaRefs.{names_of}
-use Rattle.variant_read.specs.Meaning.{field_name, container, value_within, size_in}
+use Rattle.variant_read.specs.Layout.{field_id}
+use Rattle.variant_read.specs.Meaning.{container, value_within, size_in}
 use Rattle.variant_read.proofs.Walk.{left}
 use Rattle.variant_read.proofs.judging.+judging.Given as goal
 
@@ -29,5 +30,6 @@ abbrev pub invariant-fields-loop-k : goal.invariant-fields-loop-k
 invariant-fields-loop-k l = record {
   within : l.used ≤ length l.region;
   rest : size_in (container (names_of l.meta) (value_within (names_of l.meta) l.room) l.layout.bytes.now) ≡ left (value_within (names_of l.meta) l.room) (names_of l.meta) l.layout.bytes.now l.k l.used;
-  name : 0 < l.k → l.before ≡ field_name (names_of l.meta) l.layout.bytes.now (l.k - 1);
+  before : 0 < l.k → l.before ≡ field_id l.layout.bytes.now (l.k - 1);
+  known : 0 < l.k → l.before < length (names_of l.meta);
 }
