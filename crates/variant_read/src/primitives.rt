@@ -1,8 +1,9 @@
 //! The values that hold no others: how many bytes each has, or the rule that it violates.
 
-ghost use Rattle.std.specs.Prelude.{◌≡◌, ◌<◌, ◌≤◌, ◌^◌, length};
+ghost use Rattle.std.specs.Prelude.{◌≡◌, ◌<◌, ◌≤◌, ◌^◌, ℕ, List, length, nat_lt, if◌then◌else◌, Ok, Err};
+ghost use Rattle.vs_bytes.specs.declared.rule.Rule.TheVariants.{ValueShort};
 ghost use Rattle.variant_read.specs.Meaning.{size_in};
-ghost use Rattle.variant_read.specs.Primitives.{integer_kind, decimal_kind, text_at, short_string, string_kind, kind_of, primitive};
+ghost use Rattle.variant_read.specs.Primitives.{decimal_kind, text_at, short_string, string_kind, kind_of, primitive};
 
 use crate::layout::type_header;
 use exact_num::Unscaled;
@@ -14,18 +15,26 @@ const MAX_SCALE: u8 = 38;
 // An unscaled integer of a decimal is less, without its sign.
 const UNSCALED_BOUND: u128 = 100_000_000_000_000_000_000_000_000_000_000_000_000;
 
+// The greatest type id of null, booleans and integers.
+const LAST_PLAIN_ID: u8 = 6;
+
 // The greatest type id of the standard.
 const LAST_TYPE_ID: u8 = 20;
 
-#[tactic(auto, unfolding(crate::specs::Primitives::integer_kind))]
-fn integer(bytes: &[u8], width: usize) -> Result<usize, Rule>
-    requires { width ≤ 8 }
-    ensures { result ≡ size_in (integer_kind width bytes.now) }
+// How many bytes a value of type id 0 to 6 has: null, booleans and integers.
+#[inline(always)]
+#[tactic(auto, unfolding(crate::specs::Primitives::kind_of, crate::specs::Primitives::constant_kind, crate::specs::Primitives::integer_kind))]
+fn plain_size(id: u8) -> usize
+    requires { id ≤ 6 }
+    ensures { (bytes : List ℕ) → 0 < length bytes → size_in (kind_of id bytes) ≡ if nat_lt (length bytes) result then Err ValueShort else Ok result }
 {
-    if bytes.len() < 1 + width {
-        return Err(Rule::ValueShort);
+    match id {
+        3 => 2,
+        4 => 3,
+        5 => 5,
+        6 => 9,
+        _ => 1,
     }
-    Ok(1 + width)
 }
 
 // A decimal whose integer has few bytes has few digits.
@@ -93,16 +102,14 @@ fn string(bytes: &[u8]) -> Result<usize, Rule>
     text(bytes, 5, number_at(bytes, 1, 4) as usize)
 }
 
-#[tactic(auto, unfolding(crate::specs::Primitives::kind_of, crate::specs::Primitives::constant_kind, crate::specs::Primitives::unread_kind))]
-fn kind_of(bytes: &[u8], id: u8) -> Result<usize, Rule>
+// The kinds of type id 7 and above.
+#[inline(never)]
+#[tactic(auto, unfolding(crate::specs::Primitives::kind_of, crate::specs::Primitives::unread_kind))]
+fn other_kind(bytes: &[u8], id: u8) -> Result<usize, Rule>
+    requires { 7 ≤ id }
     ensures { result ≡ size_in (kind_of id bytes.now) }
 {
     match id {
-        0 | 1 | 2 => Ok(1),
-        3 => integer(bytes, 1),
-        4 => integer(bytes, 2),
-        5 => integer(bytes, 4),
-        6 => integer(bytes, 8),
         7 | 14 => Err(Rule::FloatLeftOut),
         8 => small_decimal(bytes, 4),
         9 => small_decimal(bytes, 8),
@@ -118,10 +125,19 @@ fn kind_of(bytes: &[u8], id: u8) -> Result<usize, Rule>
     }
 }
 
+#[inline(always)]
 #[tactic(auto, unfolding(crate::specs::Primitives::primitive))]
 pub(crate) fn primitive(bytes: &[u8]) -> Result<usize, Rule>
     requires { 0 < length bytes.now }
     ensures { result ≡ size_in (primitive bytes.now) }
 {
-    kind_of(bytes, type_header(bytes))
+    let id = type_header(bytes);
+    if id > LAST_PLAIN_ID {
+        return other_kind(bytes, id);
+    }
+    let size = plain_size(id);
+    if bytes.len() < size {
+        return Err(Rule::ValueShort);
+    }
+    Ok(size)
 }
