@@ -1,10 +1,12 @@
 -- The members of an object that was judged: their names are the dictionary's, and rise.
 use Rattle.std.proofs.Common.{◌≡◌, ◌∙◌, ◌⊎◌, inl, inr, refl, sym, ap, subst, ℕ, zero, suc, pred, ◌+◌, ◌<◌, ◌≤◌, List, [], ◌∷◌, length, Bool, true, false, cond, None, Some, bytes_eq, arith}
 use Rattle.std.specs.Prelude.{slice_get, nat_le, ◌==◌, is_ok}
+use Rattle.std.specs.Option.{option_map}
 use Rattle.std.proofs.lemmas.Bool.Decides.{nat_tests}
+use Rattle.std.proofs.lemmas.Option.{slice_get-map, get_or_from_slice_get}
 use Rattle.json_tree.specs.Json.{Json, parts_of, fields_of, depth_of, parts_depth, fields_depth}
 use Rattle.vs_bytes.specs.declared.rule.Rule.TheVariants.{FieldId, FieldOrder}
-use Rattle.variant_meta.specs.Names.{is_before, rise_after, names_rise, place_of}
+use Rattle.variant_meta.specs.Names.{name_at, is_before, rise_after, names_rise, place_of}
 use Rattle.variant_read.specs.Layout.{is_object, count, field_id}
 use Rattle.variant_read.specs.Meaning.{field_name, field_fault, members_from}
 use Rattle.variant_read.specs.Items.{items_in, items_held, members_held, member_names, member_values}
@@ -88,28 +90,41 @@ held_names_rise names room bytes object ok = by (items_held names room bytes) (h
 
 -- the name and the value of a place
 
-pub member_name_listed : (names : List (List ℕ)) (room : ℕ) (bytes : List ℕ) (k : ℕ) → is_ok (items_in names room bytes) ≡ true → k < count bytes → slice_get (member_names (members_held names room bytes)) k ≡ Some (field_name names bytes k)
-unfolding members_held
-member_name_listed names room bytes k ok inside =
+name_listed : (names : List (List ℕ)) (room : ℕ) (bytes : List ℕ) (k : ℕ) → is_ok (items_in names room bytes) ≡ true → k < count bytes → slice_get (member_names (members_held names room bytes)) k ≡ Some (name_at names (field_id bytes k))
+unfolding members_held field_name
+name_listed names room bytes k ok inside =
     let len = held_len names room bytes ok in
     let start : 0 + k ≡ k = omega arith in
     name_is names bytes 0 (items_held names room bytes) k (omega (arith, inside, len)) ∙ ap (λ (i : ℕ). Some (field_name names bytes i)) start
 
-pub held_values : (names : List (List ℕ)) (room : ℕ) (bytes : List ℕ) → member_values (members_held names room bytes) ≡ items_held names room bytes
+pub member_name_at : (names : List (List ℕ)) (room : ℕ) (bytes : List ℕ) (k : ℕ) → is_ok (items_in names room bytes) ≡ true → k < count bytes → name_at (member_names (members_held names room bytes)) k ≡ name_at names (field_id bytes k)
+member_name_at names room bytes k ok inside =
+    get_or_from_slice_get (member_names (members_held names room bytes)) k (name_at names (field_id bytes k)) [] (name_listed names room bytes k ok inside)
+
+pub member_name_listed : (names : List (List ℕ)) (room : ℕ) (bytes : List ℕ) (k : ℕ) → is_ok (items_in names room bytes) ≡ true → k < count bytes → option_map (λ member. member.0) (slice_get (members_held names room bytes) k) ≡ Some (name_at names (field_id bytes k))
+member_name_listed names room bytes k ok inside =
+    sym (slice_get-map (λ (member : List ℕ × Json). member.0) (members_held names room bytes) k) ∙ name_listed names room bytes k ok inside
+
+pub member_value_listed : (names : List (List ℕ)) (room : ℕ) (bytes : List ℕ) (k : ℕ) (j : Json) → slice_get (items_held names room bytes) k ≡ Some j → option_map (λ member. member.1) (slice_get (members_held names room bytes) k) ≡ Some j
 unfolding members_held
-held_values names room bytes = values_are names bytes 0 (items_held names room bytes)
+member_value_listed names room bytes k j h =
+    sym (slice_get-map (λ (member : List ℕ × Json). member.1) (members_held names room bytes) k)
+    ∙ ap (λ (xs : List Json). slice_get xs k) (values_are names bytes 0 (items_held names room bytes)) ∙ h
 
 -- The member of a name, by its place.
 
-pub named_there : (name : List ℕ) (members : List (List ℕ × Json)) (k : ℕ) (j : Json) → place_of (member_names members) name ≡ k → slice_get (member_values members) k ≡ Some j → member_named name members ≡ Some j
-named_there name [] k j e h = absurd (cc)
-named_there name (member ∷ members) k j e h = by (bytes_eq member.0 name) k e h (λ n. named_there name members n j)
+there : (name : List ℕ) (members : List (List ℕ × Json)) (k : ℕ) (j : Json) → place_of (member_names members) name ≡ k → slice_get (member_values members) k ≡ Some j → member_named name members ≡ Some j
+there name [] k j e h = absurd (cc)
+there name (member ∷ members) k j e h = by (bytes_eq member.0 name) k e h (λ n. there name members n j)
   where
     by : (b : Bool) (k : ℕ) → cond b 0 (suc (place_of (member_names members) name)) ≡ k → slice_get (member.1 ∷ member_values members) k ≡ Some j → ((n : ℕ) → place_of (member_names members) name ≡ n → slice_get (member_values members) n ≡ Some j → member_named name members ≡ Some j) → cond b (Some member.1) (member_named name members) ≡ Some j
     by true zero e h rest = h
     by true (suc k) e h rest = absurd (omega (arith, e))
     by false zero e h rest = absurd (omega (arith, e))
     by false (suc k) e h rest = rest k (omega (arith, e)) h
+
+pub named_there : (name : List ℕ) (members : List (List ℕ × Json)) (k : ℕ) (j : Json) → k ≡ place_of (member_names members) name → option_map (λ member. member.1) (slice_get members k) ≡ Some j → member_named name members ≡ Some j
+named_there name members k j e h = there name members k j (sym e) (slice_get-map (λ (member : List ℕ × Json). member.1) members k ∙ h)
 
 pub named_nowhere : (name : List ℕ) (members : List (List ℕ × Json)) → place_of (member_names members) name ≡ length members → member_named name members ≡ None
 named_nowhere name [] e = refl

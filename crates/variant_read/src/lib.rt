@@ -1,13 +1,17 @@
 //! Variant values, read in place.
 #![tactic(auto)]
 
+mod arrays;
+mod containers;
 mod judging;
 mod layout;
+mod objects;
 mod opening;
 mod primitives;
 mod scalars;
 mod viewing;
 mod views;
+mod widths;
 
 pub use viewing::view;
-pub use views::{ArrayView, ObjectView, ValueRef};
+pub use views::{ArrayRef, ArrayView, ObjectRef, ObjectView, ValueRef};

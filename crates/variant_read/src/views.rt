@@ -2,7 +2,7 @@
 
 ghost use Rattle.std.specs.Prelude.{◌≡◌, true, false, is_ok};
 ghost use Rattle.variant_meta.specs.MetaRefs.{names_of};
-ghost use Rattle.variant_read.specs.Layout.{is_object};
+ghost use Rattle.variant_read.specs.Layout.{is_object, id_size, offset_size};
 ghost use Rattle.variant_read.specs.Items.{items_in};
 
 use crate::layout::Layout;
@@ -42,4 +42,19 @@ pub struct ArrayView<'a> {
 pub struct ObjectView<'a> {
     pub(crate) of: Container<'a>,
     ghost object: { is_object of.layout.bytes.now ≡ true },
+}
+
+/// An array whose offsets have `OW` bytes, from 1 to 4.
+#[derive(Clone, Copy)]
+pub struct ArrayRef<'a, const OW: usize> {
+    pub(crate) view: ArrayView<'a>,
+    ghost offsets: { offset_size view.of.layout.bytes.now ≡ OW },
+}
+
+/// An object whose offsets have `OW` bytes and whose ids have `IW`, each from 1 to 4.
+#[derive(Clone, Copy)]
+pub struct ObjectRef<'a, const OW: usize, const IW: usize> {
+    pub(crate) view: ObjectView<'a>,
+    ghost offsets: { offset_size view.of.layout.bytes.now ≡ OW },
+    ghost ids: { id_size view.of.layout.bytes.now ≡ IW },
 }
