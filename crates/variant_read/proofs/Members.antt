@@ -6,7 +6,8 @@ use Rattle.std.proofs.lemmas.Bool.Decides.{nat_tests}
 use Rattle.std.proofs.lemmas.Option.{slice_get-map, get_or_from_slice_get}
 use Rattle.json_tree.specs.Json.{Json, parts_of, fields_of, depth_of, parts_depth, fields_depth}
 use Rattle.vs_bytes.specs.declared.rule.Rule.TheVariants.{FieldId, FieldOrder}
-use Rattle.variant_meta.specs.Names.{name_at, is_before, rise_after, names_rise, place_of}
+use Rattle.variant_meta.specs.Names.{AllBefore, NoneBefore, name_at, is_before, rise_after, names_rise, place_of}
+use Rattle.variant_meta.proofs.Places.{raise, lower, found, absent_last, absent_here, place_most}
 use Rattle.variant_read.specs.Layout.{is_object, count, field_id}
 use Rattle.variant_read.specs.Meaning.{field_name, field_fault, members_from}
 use Rattle.variant_read.specs.Items.{items_in, items_held, members_held, member_names, member_values}
@@ -145,3 +146,33 @@ pub member_depth : (members : List (List ℕ × Json)) (k : ℕ) (j : Json) → 
 member_depth [] k j h = absurd (cc)
 member_depth (member ∷ members) zero j h = let e : member.1 ≡ j = cc in rw (sym e) (omega arith)
 member_depth (member ∷ members) (suc k) j h = let less = member_depth members k j h in omega (arith, less)
+
+-- The search by name: variant_meta's lemmas for an object's names.
+
+names_len : (members : List (List ℕ × Json)) → length (member_names members) ≡ length members
+names_len [] = refl
+names_len (member ∷ members) = ap suc (names_len members)
+
+pub place_within : (members : List (List ℕ × Json)) (name : List ℕ) → place_of (member_names members) name ≤ length members
+place_within members name = let len = names_len members in let most = place_most (member_names members) name in omega (arith, len, most)
+
+pub raise_members : (names : List (List ℕ)) (room : ℕ) (bytes : List ℕ) (name : List ℕ) (k : ℕ) → is_object bytes ≡ true → is_ok (items_in names room bytes) ≡ true → k < length (members_held names room bytes) → is_before (name_at (member_names (members_held names room bytes)) k) name ≡ true → AllBefore (member_names (members_held names room bytes)) name (k + 1)
+raise_members names room bytes name k object ok inside here =
+    let len = names_len (members_held names room bytes) in
+    raise (member_names (members_held names room bytes)) name k (held_names_rise names room bytes object ok) (omega (arith, len, inside)) here
+
+pub lower_members : (names : List (List ℕ)) (room : ℕ) (bytes : List ℕ) (name : List ℕ) (k : ℕ) → is_object bytes ≡ true → is_ok (items_in names room bytes) ≡ true → is_before (name_at (member_names (members_held names room bytes)) k) name ≡ false → NoneBefore (member_names (members_held names room bytes)) name k
+lower_members names room bytes name k object ok here =
+    lower (member_names (members_held names room bytes)) name k (held_names_rise names room bytes object ok) here
+
+pub found_member : (members : List (List ℕ × Json)) (name : List ℕ) (k : ℕ) → AllBefore (member_names members) name k → k < length members → bytes_eq (name_at (member_names members) k) name ≡ true → place_of (member_names members) name ≡ k
+found_member members name k before inside same = let len = names_len members in found (member_names members) name k before (omega (arith, len, inside)) same
+
+pub no_member_last : (members : List (List ℕ × Json)) (name : List ℕ) → AllBefore (member_names members) name (length members) → place_of (member_names members) name ≡ length members
+no_member_last members name before =
+    absent_last (member_names members) name (subst (λ (k : ℕ). AllBefore (member_names members) name k) (sym (names_len members)) before) ∙ names_len members
+
+pub no_member_here : (names : List (List ℕ)) (room : ℕ) (bytes : List ℕ) (name : List ℕ) (k : ℕ) → is_object bytes ≡ true → is_ok (items_in names room bytes) ≡ true → AllBefore (member_names (members_held names room bytes)) name k → NoneBefore (member_names (members_held names room bytes)) name k → bytes_eq (name_at (member_names (members_held names room bytes)) k) name ≡ false → place_of (member_names (members_held names room bytes)) name ≡ length (members_held names room bytes)
+no_member_here names room bytes name k object ok before after other =
+    absent_here (member_names (members_held names room bytes)) name k (held_names_rise names room bytes object ok) before after other
+    ∙ names_len (members_held names room bytes)

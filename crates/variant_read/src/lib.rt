@@ -9,6 +9,7 @@ mod objects;
 mod opening;
 mod primitives;
 mod scalars;
+mod searching;
 mod viewing;
 mod views;
 mod widths;

@@ -71,6 +71,18 @@ impl<'a> ObjectView<'a> {
             item(k)
         )
     }
+
+    /// The value of the field of that name. It takes time logarithmic in the number of fields.
+    pub fn get(&self, name: &str) -> Option<ValueRef<'a>>
+        ensures value { Finds json_of result (member_named name.now (members_of self.now)) }
+        ensures inside { IfSome result (λ value. LiesIn value (object_bytes self.now)) }
+    {
+        by_width!(
+            (self.of.layout.width, self.of.layout.id_width),
+            *self,
+            get(name)
+        )
+    }
 }
 
 impl<'a, const OW: usize, const IW: usize> ObjectRef<'a, OW, IW> {
