@@ -2,6 +2,7 @@ pub mod Inside
 pub mod Items
 pub mod Judged
 pub mod Levels
+pub mod Made
 pub mod Members
 pub mod Rooms
 pub mod Samples

@@ -142,7 +142,7 @@ item_depth [] k j h = absurd (cc)
 item_depth (item ∷ items) zero j h = let e : item ≡ j = cc in rw (sym e) (omega arith)
 item_depth (item ∷ items) (suc k) j h = let less = item_depth items k j h in omega (arith, less)
 
-pub member_depth : (members : List (List ℕ × Json)) (k : ℕ) (j : Json) → slice_get (member_values members) k ≡ Some j → depth_of j ≤ fields_depth (fields_of members)
+pub member_depth : (members : List (List ℕ × Json)) (k : ℕ) (j : Json) → option_map (λ member. member.1) (slice_get members k) ≡ Some j → depth_of j ≤ fields_depth (fields_of members)
 member_depth [] k j h = absurd (cc)
 member_depth (member ∷ members) zero j h = let e : member.1 ≡ j = cc in rw (sym e) (omega arith)
 member_depth (member ∷ members) (suc k) j h = let less = member_depth members k j h in omega (arith, less)

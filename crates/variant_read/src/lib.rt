@@ -7,6 +7,7 @@ mod judging;
 mod layout;
 mod objects;
 mod opening;
+mod owned;
 mod primitives;
 mod scalars;
 mod searching;
@@ -14,5 +15,6 @@ mod viewing;
 mod views;
 mod widths;
 
+pub use owned::to_tree;
 pub use viewing::view;
 pub use views::{ArrayRef, ArrayView, ObjectRef, ObjectView, ValueRef};
