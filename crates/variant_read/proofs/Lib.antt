@@ -6,6 +6,7 @@ pub mod Made
 pub mod Members
 pub mod Rooms
 pub mod Samples
+pub mod Texts
 pub mod Unscaleds
 pub mod Viewed
 pub mod Walk

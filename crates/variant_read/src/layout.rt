@@ -1,10 +1,10 @@
 //! Where the parts of an object or array lie.
 
-ghost use Rattle.std.specs.Prelude.{◌≡◌, ◌+◌, ◌<◌, ◌≤◌, ◌^◌, ◌↔◌, length, true, IsSome, IfSome};
-ghost use Rattle.vs_bytes.specs.Numbers.{IsPart};
+ghost use Rattle.std.specs.Prelude.{◌≡◌, ◌+◌, ◌*◌, ◌<◌, ◌≤◌, ◌^◌, ◌↔◌, length, true, IsSome, IfSome};
+ghost use Rattle.vs_bytes.specs.Numbers.{number, IsPart};
 ghost use Rattle.variant_read.specs.Layout.{basic_type, type_header, is_object, is_large, offset_size, id_size, count_size, count, id_place, field_id, offset, fixed_size, last_offset, region, container_size};
 
-use vs_bytes::{number_at, part};
+use vs_bytes::{Le, number_at, part};
 
 // The basic type of objects.
 const OBJECT_TYPE: u8 = 2;
@@ -44,6 +44,36 @@ pub(crate) struct Layout<'a> {
     ghost last_is: { last ≡ last_offset bytes.now },
     ghost last_most: { last < 2 ^ 32 },
     ghost inside: { start + last ≤ length bytes.now },
+}
+
+// Numbers of more than 2 bytes are rare.
+#[inline(never)]
+fn wide_number(bytes: &[u8], from: usize, k: usize, width: usize) -> u32
+    requires least { 1 ≤ width }
+    requires most { width ≤ 4 }
+    requires inside { from + k * width + width ≤ length bytes.now }
+    ensures value { result ≡ number bytes.now (from + k * width) width }
+    ensures fits { result < 256 ^ width }
+{
+    number_at(bytes, from + k * width, width)
+}
+
+// Number `k` of those of so many bytes each, the first of which begins at `from`.
+#[inline(always)]
+fn number_of(bytes: &[u8], from: usize, k: usize, width: usize) -> u32
+    requires least { 1 ≤ width }
+    requires most { width ≤ 4 }
+    requires inside { from + k * width + width ≤ length bytes.now }
+    ensures value { result ≡ number bytes.now (from + k * width) width }
+    ensures fits { result < 256 ^ width }
+{
+    if width == 1 {
+        return Le::<1>::read(bytes, from + k);
+    }
+    if width == 2 {
+        return Le::<2>::read(bytes, from + k * 2);
+    }
+    wide_number(bytes, from, k, width)
 }
 
 #[tactic(auto, unfolding(crate::specs::Layout::basic_type))]
@@ -143,7 +173,7 @@ impl<'a> Layout<'a> {
         if bytes.len() < start {
             return None;
         }
-        let last = number_at(bytes, offsets + len * width, width) as usize;
+        let last = number_of(bytes, offsets, len, width) as usize;
         if bytes.len() - start < last {
             return None;
         }
@@ -161,26 +191,29 @@ impl<'a> Layout<'a> {
     }
 
     /// The id of field `k`.
+    #[inline(always)]
     #[tactic(auto, using(crate::proofs::Rooms::number_room), unfolding(crate::specs::Layout::id_place, crate::specs::Layout::offset_place, crate::specs::Layout::fixed_size, crate::specs::Layout::field_id))]
     pub(crate) fn field_id(&self, k: usize) -> u32
         requires object { self.now.object ≡ true }
         requires inside { k < self.now.len }
         ensures { result ≡ field_id self.now.bytes.now k }
     {
-        number_at(self.bytes, self.ids + k * self.id_width, self.id_width)
+        number_of(self.bytes, self.ids, k, self.id_width)
     }
 
     /// Where item `k` begins in the region.
+    #[inline(always)]
     #[tactic(auto, using(crate::proofs::Rooms::number_room), unfolding(crate::specs::Layout::id_place, crate::specs::Layout::offset_place, crate::specs::Layout::fixed_size, crate::specs::Layout::offset))]
     pub(crate) fn offset(&self, k: usize) -> usize
         requires { k < self.now.len }
         ensures value { result ≡ offset self.now.bytes.now k }
         ensures fits { result < 2 ^ 32 }
     {
-        number_at(self.bytes, self.offsets + k * self.width, self.width) as usize
+        number_of(self.bytes, self.offsets, k, self.width) as usize
     }
 
     /// The bytes of the items.
+    #[inline(always)]
     #[tactic(auto, unfolding(crate::specs::Layout::region))]
     pub(crate) fn region(&self) -> &'a [u8]
         ensures value { result.now ≡ region self.now.bytes.now }
@@ -191,6 +224,7 @@ impl<'a> Layout<'a> {
     }
 
     /// The bytes of the whole object or array.
+    #[inline(always)]
     #[tactic(auto, unfolding(crate::specs::Layout::container_size))]
     pub(crate) fn size(&self) -> usize
         ensures { result ≡ container_size self.now.bytes.now }

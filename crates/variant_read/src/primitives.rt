@@ -1,6 +1,7 @@
 //! The values that hold no others: how many bytes each has, or the rule that it violates.
 
 ghost use Rattle.std.specs.Prelude.{◌≡◌, ◌<◌, ◌≤◌, ◌^◌, ℕ, List, length, nat_lt, if◌then◌else◌, Ok, Err};
+ghost use Rattle.std.specs.Str.{is_utf8};
 ghost use Rattle.vs_bytes.specs.declared.rule.Rule.TheVariants.{ValueShort};
 ghost use Rattle.variant_read.specs.Meaning.{size_in};
 ghost use Rattle.variant_read.specs.Primitives.{decimal_kind, text_at, short_string, string_kind, kind_of, primitive};
@@ -68,6 +69,19 @@ fn wide_decimal(bytes: &[u8]) -> Result<usize, Rule>
     Ok(18)
 }
 
+// Whether bytes are UTF-8. Most texts are ASCII, which is told sooner.
+#[inline(always)]
+#[tactic(auto, using(crate::proofs::Texts::ascii_is_utf8))]
+fn is_text(bytes: &[u8]) -> bool
+    ensures { result ≡ is_utf8 bytes.now }
+{
+    if bytes.is_ascii() {
+        return true;
+    }
+    is_utf8(bytes)
+}
+
+#[inline(always)]
 #[tactic(auto, unfolding(crate::specs::Primitives::text_at))]
 fn text(bytes: &[u8], at: usize, len: usize) -> Result<usize, Rule>
     requires at { at ≤ 5 }
@@ -77,13 +91,14 @@ fn text(bytes: &[u8], at: usize, len: usize) -> Result<usize, Rule>
     let Some(text) = cut(bytes, at, len) else {
         return Err(Rule::ValueShort);
     };
-    if is_utf8(text) {
+    if is_text(text) {
         Ok(at + len)
     } else {
         Err(Rule::TextUtf8)
     }
 }
 
+#[inline(always)]
 #[tactic(auto, unfolding(crate::specs::Primitives::short_string))]
 pub(crate) fn short_string(bytes: &[u8]) -> Result<usize, Rule>
     requires { 0 < length bytes.now }
