@@ -8,6 +8,8 @@ use Rattle.variant_read.specs.Items.{items_held, members_held}
 use Rattle.variant_read.specs.Trees.{array_of, object_of}
 use Rattle.variant_read.specs.declared.views.ArrayView.{ArrayView}
 use Rattle.variant_read.specs.declared.views.ObjectView.{ObjectView}
+use Rattle.variant_read.specs.declared.views.Scalar.{Scalar}
+use Rattle.variant_read.specs.declared.views.Scalar.TheVariants as scalar
 use Rattle.variant_read.specs.declared.views.ValueRef.{ValueRef}
 use Rattle.variant_read.specs.declared.views.ValueRef.TheVariants.{Null, Bool, Num, Text, Object, Array}
 
@@ -46,3 +48,17 @@ LiesIn (Num n) bytes = ⊤
 LiesIn (Text text) bytes = IsPart text.now bytes
 LiesIn (Object view) bytes = IsPart (object_bytes view) bytes
 LiesIn (Array view) bytes = IsPart (array_bytes view) bytes
+
+-- the same of a value that holds no others
+
+abbrev pub scalar_json : Scalar → json.Json
+scalar_json scalar.Null = json.null
+scalar_json (scalar.Bool b) = json.boolean b
+scalar_json (scalar.Num n) = json.number (decimal_of n)
+scalar_json (scalar.Text text) = json.text text.now
+
+abbrev pub ScalarLiesIn : Scalar → List ℕ → Type 0
+ScalarLiesIn scalar.Null bytes = ⊤
+ScalarLiesIn (scalar.Bool b) bytes = ⊤
+ScalarLiesIn (scalar.Num n) bytes = ⊤
+ScalarLiesIn (scalar.Text text) bytes = IsPart text.now bytes

@@ -1,13 +1,13 @@
 //! One level of a value that was judged.
 
-ghost use Rattle.std.specs.Prelude.{◌≡◌, ◌<◌, true, is_ok, Ok, length};
+ghost use Rattle.std.specs.Prelude.{◌≡◌, ◌<◌, ℕ, List, true, is_ok, Ok, length};
 ghost use Rattle.variant_meta.specs.MetaRefs.{names_of};
 ghost use Rattle.variant_read.specs.Meaning.{container, value_within, json_in};
-ghost use Rattle.variant_read.specs.View.{json_of, LiesIn};
+ghost use Rattle.variant_read.specs.View.{json_of, scalar_json, LiesIn, ScalarLiesIn};
 
 use crate::layout::{Layout, basic_type};
 use crate::scalars::{opened_primitive, opened_short_string};
-use crate::views::{ArrayView, Container, ObjectView, ValueRef};
+use crate::views::{ArrayView, Container, ObjectView, Scalar, ValueRef};
 use variant_meta::MetaRef;
 
 #[tactic(auto, using(crate::proofs::Levels::container_fits, crate::proofs::Levels::container_items, crate::proofs::Levels::object_means, crate::proofs::Levels::array_means, crate::proofs::Inside::part_all), unfolding(crate::specs::View::elements_of, crate::specs::View::members_of, crate::specs::View::array_bytes, crate::specs::View::object_bytes))]
@@ -28,6 +28,18 @@ fn opened_container<'a>(meta: MetaRef<'a>, bytes: &'a [u8], room: u8) -> ValueRe
     }
 }
 
+fn opened_scalar(scalar: Scalar<'_>) -> ValueRef<'_>
+    ensures value { json_of result ≡ scalar_json scalar.entry }
+    ensures inside { (bytes : List ℕ) → ScalarLiesIn scalar.entry bytes → LiesIn result bytes }
+{
+    match scalar {
+        Scalar::Null => ValueRef::Null,
+        Scalar::Bool(truth) => ValueRef::Bool(truth),
+        Scalar::Num(number) => ValueRef::Num(number),
+        Scalar::Text(text) => ValueRef::Text(text),
+    }
+}
+
 /// The value of bytes that mean one. It tests nothing again.
 #[tactic(auto, using(crate::proofs::Levels::some_byte, crate::proofs::Levels::level_primitive, crate::proofs::Levels::level_short, crate::proofs::Levels::level_room, crate::proofs::Levels::level_container))]
 pub(crate) fn opened<'a>(meta: MetaRef<'a>, bytes: &'a [u8], room: u8) -> ValueRef<'a>
@@ -36,8 +48,8 @@ pub(crate) fn opened<'a>(meta: MetaRef<'a>, bytes: &'a [u8], room: u8) -> ValueR
     ensures inside { LiesIn result bytes.now }
 {
     match basic_type(bytes) {
-        0 => opened_primitive(bytes),
-        1 => opened_short_string(bytes),
+        0 => opened_scalar(opened_primitive(bytes)),
+        1 => ValueRef::Text(opened_short_string(bytes)),
         _ => opened_container(meta, bytes, room - 1),
     }
 }

@@ -3,13 +3,13 @@
 ghost use Rattle.std.specs.Prelude.{◌≡◌, ◌<◌, ◌≤◌, true, is_ok, Ok, length};
 ghost use Rattle.vs_bytes.specs.Numbers.{IsPart, part};
 ghost use Rattle.exact_num.specs.NumberOf.{decimal_of};
-ghost use Rattle.json_tree.specs.Json.{number};
+ghost use Rattle.json_tree.specs.Json.{number, text};
 ghost use Rattle.variant_read.specs.Primitives.{integer_kind, decimal_kind, text_at, string_kind, kind_of, short_string, primitive};
 ghost use Rattle.variant_read.specs.Meaning.{json_in};
-ghost use Rattle.variant_read.specs.View.{json_of, LiesIn};
+ghost use Rattle.variant_read.specs.View.{scalar_json, ScalarLiesIn};
 
 use crate::layout::type_header;
-use crate::views::ValueRef;
+use crate::views::Scalar;
 use exact_num::{Number, Unscaled};
 use vs_bytes::{number_at, part};
 
@@ -43,53 +43,58 @@ fn text(bytes: &[u8], at: usize, len: usize) -> &str
     unsafe { std::str::from_utf8_unchecked(text) }
 }
 
+/// The text of a short string.
+#[inline(always)]
 #[tactic(auto, using(crate::proofs::Judged::text_means), unfolding(crate::specs::Primitives::short_string))]
-pub(crate) fn opened_short_string(bytes: &[u8]) -> ValueRef<'_>
+pub(crate) fn opened_short_string(bytes: &[u8]) -> &str
     requires there { 0 < length bytes.now }
     requires judged { is_ok (short_string bytes.now) ≡ true }
-    ensures value { json_in (short_string bytes.now) ≡ Ok (json_of result) }
-    ensures inside { LiesIn result bytes.now }
+    ensures value { json_in (short_string bytes.now) ≡ Ok (text result.now) }
+    ensures inside { IsPart result.now bytes.now }
 {
-    ValueRef::Text(text(bytes, 1, usize::from(type_header(bytes))))
+    text(bytes, 1, usize::from(type_header(bytes)))
 }
 
 #[tactic(auto, using(crate::proofs::Judged::text_there, crate::proofs::Judged::text_means), unfolding(crate::specs::Primitives::string_kind))]
-fn opened_string(bytes: &[u8]) -> ValueRef<'_>
+fn string(bytes: &[u8]) -> &str
     requires { is_ok (string_kind bytes.now) ≡ true }
-    ensures value { json_in (string_kind bytes.now) ≡ Ok (json_of result) }
-    ensures inside { LiesIn result bytes.now }
+    ensures value { json_in (string_kind bytes.now) ≡ Ok (text result.now) }
+    ensures inside { IsPart result.now bytes.now }
 {
-    ValueRef::Text(text(bytes, 5, number_at(bytes, 1, 4) as usize))
+    text(bytes, 5, number_at(bytes, 1, 4) as usize)
 }
 
+#[inline(always)]
 #[tactic(auto, unfolding(crate::specs::Primitives::kind_of, crate::specs::Primitives::constant_kind, crate::specs::Primitives::unread_kind))]
-fn opened_kind(bytes: &[u8], id: u8) -> ValueRef<'_>
+fn opened_kind(bytes: &[u8], id: u8) -> Scalar<'_>
     requires { is_ok (kind_of id bytes.now) ≡ true }
-    ensures value { json_in (kind_of id bytes.now) ≡ Ok (json_of result) }
-    ensures inside { LiesIn result bytes.now }
+    ensures value { json_in (kind_of id bytes.now) ≡ Ok (scalar_json result) }
+    ensures inside { ScalarLiesIn result bytes.now }
 {
     match id {
-        0 => ValueRef::Null,
-        1 => ValueRef::Bool(true),
-        2 => ValueRef::Bool(false),
-        3 => ValueRef::Num(integer::<1>(bytes)),
-        4 => ValueRef::Num(integer::<2>(bytes)),
-        5 => ValueRef::Num(integer::<4>(bytes)),
-        6 => ValueRef::Num(integer::<8>(bytes)),
-        8 => ValueRef::Num(decimal::<4>(bytes)),
-        9 => ValueRef::Num(decimal::<8>(bytes)),
-        10 => ValueRef::Num(decimal::<16>(bytes)),
-        16 => opened_string(bytes),
+        0 => Scalar::Null,
+        1 => Scalar::Bool(true),
+        2 => Scalar::Bool(false),
+        3 => Scalar::Num(integer::<1>(bytes)),
+        4 => Scalar::Num(integer::<2>(bytes)),
+        5 => Scalar::Num(integer::<4>(bytes)),
+        6 => Scalar::Num(integer::<8>(bytes)),
+        8 => Scalar::Num(decimal::<4>(bytes)),
+        9 => Scalar::Num(decimal::<8>(bytes)),
+        10 => Scalar::Num(decimal::<16>(bytes)),
+        16 => Scalar::Text(string(bytes)),
         _ => unreachable!(),
     }
 }
 
+/// A primitive value.
+#[inline(always)]
 #[tactic(auto, unfolding(crate::specs::Primitives::primitive))]
-pub(crate) fn opened_primitive(bytes: &[u8]) -> ValueRef<'_>
+pub(crate) fn opened_primitive(bytes: &[u8]) -> Scalar<'_>
     requires there { 0 < length bytes.now }
     requires judged { is_ok (primitive bytes.now) ≡ true }
-    ensures value { json_in (primitive bytes.now) ≡ Ok (json_of result) }
-    ensures inside { LiesIn result bytes.now }
+    ensures value { json_in (primitive bytes.now) ≡ Ok (scalar_json result) }
+    ensures inside { ScalarLiesIn result bytes.now }
 {
     opened_kind(bytes, type_header(bytes))
 }

@@ -20,6 +20,15 @@ pub enum ValueRef<'a> {
     Array(ArrayView<'a>),
 }
 
+/// A value that holds no others.
+#[derive(Clone, Copy)]
+pub(crate) enum Scalar<'a> {
+    Null,
+    Bool(bool),
+    Num(Number),
+    Text(&'a str),
+}
+
 /// An object or array whose items are values.
 #[derive(Clone, Copy)]
 pub(crate) struct Container<'a> {
