@@ -1,10 +1,11 @@
 -- What the views of a value show.
-use Rattle.std.specs.Prelude.{ℕ, List, ⊤}
+use Rattle.std.specs.Prelude.{◌≡◌, ℕ, List, ⊤}
 use Rattle.exact_num.specs.NumberOf.{decimal_of}
 use Rattle.json_tree.specs.Json as json
 use Rattle.vs_bytes.specs.Numbers.{IsPart}
 use Rattle.variant_meta.specs.MetaRefs as metadata
 use Rattle.variant_read.specs.Items.{items_held, members_held}
+use Rattle.variant_read.specs.Layout.{id_size, offset_size}
 use Rattle.variant_read.specs.Trees.{array_of, object_of}
 use Rattle.variant_read.specs.declared.views.ArrayView.{ArrayView}
 use Rattle.variant_read.specs.declared.views.ObjectView.{ObjectView}
@@ -37,8 +38,22 @@ unfoldable pub object_bytes : ObjectView → List ℕ
 object_bytes view = view.of.layout.bytes.now
 
 -- the bytes of the metadata, in which the names lie
-unfoldable pub name_bytes : ObjectView → List ℕ
-name_bytes view = metadata.bytes_of view.of.meta
+unfoldable pub array_metadata : ArrayView → List ℕ
+array_metadata view = metadata.bytes_of view.of.meta
+
+unfoldable pub object_metadata : ObjectView → List ℕ
+object_metadata view = metadata.bytes_of view.of.meta
+
+-- the bytes of an offset
+unfoldable pub array_offset_size : ArrayView → ℕ
+array_offset_size view = offset_size view.of.layout.bytes.now
+
+unfoldable pub object_offset_size : ObjectView → ℕ
+object_offset_size view = offset_size view.of.layout.bytes.now
+
+-- the bytes of an id
+unfoldable pub object_id_size : ObjectView → ℕ
+object_id_size view = id_size view.of.layout.bytes.now
 
 -- what a value shows lies in these bytes
 abbrev pub LiesIn : ValueRef → List ℕ → Type 0
@@ -48,6 +63,15 @@ LiesIn (Num n) bytes = ⊤
 LiesIn (Text text) bytes = IsPart text.now bytes
 LiesIn (Object view) bytes = IsPart (object_bytes view) bytes
 LiesIn (Array view) bytes = IsPart (array_bytes view) bytes
+
+-- the names of what a value holds lie in these bytes of metadata
+abbrev pub HasMetadata : ValueRef → List ℕ → Type 0
+HasMetadata Null bytes = ⊤
+HasMetadata (Bool b) bytes = ⊤
+HasMetadata (Num n) bytes = ⊤
+HasMetadata (Text text) bytes = ⊤
+HasMetadata (Object view) bytes = object_metadata view ≡ bytes
+HasMetadata (Array view) bytes = array_metadata view ≡ bytes
 
 -- the same of a value that holds no others
 

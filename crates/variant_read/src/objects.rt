@@ -1,15 +1,11 @@
 //! The fields of objects.
 
-ghost use Rattle.std.specs.Prelude.{◌≡◌, ◌<◌, ◌≤◌, Some, IfSome, slice_get, length};
+ghost use Rattle.std.specs.Prelude.{◌≡◌, ◌<◌, ◌↔◌, Some, IsSome, IfSome, slice_get, length};
 ghost use Rattle.std.specs.Option.{option_map};
 ghost use Rattle.vs_bytes.specs.Numbers.{IsPart};
 ghost use Rattle.vs_bytes.specs.Outcome.{Finds};
-ghost use Rattle.variant_meta.specs.MetaRefs.{names_of};
-ghost use Rattle.variant_meta.specs.Names.{name_at, place_of, AllBefore, NoneBefore};
-ghost use Rattle.variant_read.specs.Layout.{field_id};
-ghost use Rattle.variant_read.specs.Items.{member_names};
 ghost use Rattle.variant_read.specs.Trees.{member_named};
-ghost use Rattle.variant_read.specs.View.{members_of, json_of, object_bytes, name_bytes, LiesIn};
+ghost use Rattle.variant_read.specs.View.{members_of, json_of, object_bytes, object_metadata, object_offset_size, object_id_size, LiesIn, HasMetadata};
 
 use crate::views::{ObjectRef, ObjectView, ValueRef};
 
@@ -50,7 +46,7 @@ impl<'a> ObjectView<'a> {
     pub fn name(&self, k: usize) -> &'a str
         requires { k < length (members_of self.now) }
         ensures value { option_map (λ member. member.0) (slice_get (members_of self.now) k) ≡ Some result.now }
-        ensures inside { IsPart result.now (name_bytes self.now) }
+        ensures inside { IsPart result.now (object_metadata self.now) }
     {
         by_width!(
             (self.of.layout.width, self.of.layout.id_width),
@@ -64,6 +60,7 @@ impl<'a> ObjectView<'a> {
         requires { k < length (members_of self.now) }
         ensures value { option_map (λ member. member.1) (slice_get (members_of self.now) k) ≡ Some (json_of result) }
         ensures inside { LiesIn result (object_bytes self.now) }
+        ensures metadata { HasMetadata result (object_metadata self.now) }
     {
         by_width!(
             (self.of.layout.width, self.of.layout.id_width),
@@ -76,6 +73,7 @@ impl<'a> ObjectView<'a> {
     pub fn get(&self, name: &str) -> Option<ValueRef<'a>>
         ensures value { Finds json_of result (member_named name.now (members_of self.now)) }
         ensures inside { IfSome result (λ value. LiesIn value (object_bytes self.now)) }
+        ensures metadata { IfSome result (λ value. HasMetadata value (object_metadata self.now)) }
     {
         by_width!(
             (self.of.layout.width, self.of.layout.id_width),
@@ -86,6 +84,18 @@ impl<'a> ObjectView<'a> {
 }
 
 impl<'a, const OW: usize, const IW: usize> ObjectRef<'a, OW, IW> {
+    /// The object, or `None` where its offsets or ids have another count of bytes.
+    #[tactic(auto, unfolding(crate::specs::View::object_offset_size, crate::specs::View::object_id_size))]
+    pub fn of(view: ObjectView<'a>) -> Option<ObjectRef<'a, OW, IW>>
+        ensures some { IsSome result ↔ ((object_offset_size view.entry ≡ OW) × (object_id_size view.entry ≡ IW)) }
+        ensures same { IfSome result (λ object. object.view ≡ view.entry) }
+    {
+        if view.of.layout.width != OW || view.of.layout.id_width != IW {
+            return None;
+        }
+        Some(ObjectRef { view })
+    }
+
     /// How many fields there are.
     pub fn len(&self) -> usize
         ensures { result ≡ length (members_of self.now.view) }
@@ -94,22 +104,23 @@ impl<'a, const OW: usize, const IW: usize> ObjectRef<'a, OW, IW> {
     }
 
     /// The name of the field at `k`, counted from 0 in the order of the names.
-    #[tactic(auto, using(crate::proofs::Members::held_members_len, crate::proofs::Members::id_known, crate::proofs::Members::member_name_listed), unfolding(crate::specs::View::members_of, crate::specs::View::name_bytes))]
+    #[tactic(auto, using(crate::proofs::Members::held_members_len, crate::proofs::Members::id_known, crate::proofs::Members::member_name_listed), unfolding(crate::specs::View::members_of, crate::specs::View::object_metadata))]
     pub fn name(&self, k: usize) -> &'a str
         requires { k < length (members_of self.now.view) }
         ensures value { option_map (λ member. member.0) (slice_get (members_of self.now.view) k) ≡ Some result.now }
-        ensures inside { IsPart result.now (name_bytes self.now.view) }
+        ensures inside { IsPart result.now (object_metadata self.now.view) }
     {
         let of = self.view.of;
         of.meta.name(of.layout.id_of_width::<IW>(k))
     }
 
     /// The value of the field at `k`, counted from 0 in the order of the names.
-    #[tactic(auto, using(crate::proofs::Members::held_members_len, crate::proofs::Items::item_within, crate::proofs::Items::item_ok, crate::proofs::Items::item_listed, crate::proofs::Members::member_value_listed), unfolding(crate::specs::View::members_of, crate::specs::View::object_bytes, crate::specs::Items::item_bytes))]
+    #[tactic(auto, using(crate::proofs::Members::held_members_len, crate::proofs::Items::item_within, crate::proofs::Items::item_ok, crate::proofs::Items::item_listed, crate::proofs::Members::member_value_listed), unfolding(crate::specs::View::members_of, crate::specs::View::object_bytes, crate::specs::View::object_metadata, crate::specs::Items::item_bytes))]
     pub fn item(&self, k: usize) -> ValueRef<'a>
         requires { k < length (members_of self.now.view) }
         ensures value { option_map (λ member. member.1) (slice_get (members_of self.now.view) k) ≡ Some (json_of result) }
         ensures inside { LiesIn result (object_bytes self.now.view) }
+        ensures metadata { HasMetadata result (object_metadata self.now.view) }
     {
         let of = self.view.of;
         of.item_from(of.layout.offset_of_width::<OW>(k))

@@ -5,7 +5,7 @@ ghost use Rattle.vs_bytes.specs.Outcome.{Finds};
 ghost use Rattle.variant_meta.specs.Names.{name_at, is_before, place_of, AllBefore, NoneBefore};
 ghost use Rattle.variant_read.specs.Items.{member_names};
 ghost use Rattle.variant_read.specs.Trees.{member_named};
-ghost use Rattle.variant_read.specs.View.{members_of, json_of, object_bytes, LiesIn};
+ghost use Rattle.variant_read.specs.View.{members_of, json_of, object_bytes, object_metadata, LiesIn, HasMetadata};
 
 use crate::views::{ObjectRef, ValueRef};
 
@@ -65,6 +65,7 @@ impl<'a, const OW: usize, const IW: usize> ObjectRef<'a, OW, IW> {
     pub fn get(&self, name: &str) -> Option<ValueRef<'a>>
         ensures value { Finds json_of result (member_named name.now (members_of self.now.view)) }
         ensures inside { IfSome result (λ value. LiesIn value (object_bytes self.now.view)) }
+        ensures metadata { IfSome result (λ value. HasMetadata value (object_metadata self.now.view)) }
     {
         let place = self.place(name.as_bytes());
         if place == self.len() {

@@ -2,9 +2,9 @@
 
 ghost use Rattle.std.specs.Prelude.{◌≤◌, IfOk};
 ghost use Rattle.vs_bytes.specs.Outcome.{Gives};
-ghost use Rattle.variant_meta.specs.MetaRefs.{names_of};
+ghost use Rattle.variant_meta.specs.MetaRefs.{names_of, bytes_of};
 ghost use Rattle.variant_read.specs.Meaning.{max_nesting, means, json_in};
-ghost use Rattle.variant_read.specs.View.{json_of, LiesIn};
+ghost use Rattle.variant_read.specs.View.{json_of, LiesIn, HasMetadata};
 
 use crate::judging::check;
 use crate::opening::opened;
@@ -22,6 +22,7 @@ pub fn view<'a>(meta: MetaRef<'a>, bytes: &'a [u8], above: u8) -> Result<ValueRe
     requires { above ≤ max_nesting }
     ensures exact { Gives json_of result (json_in (means (names_of meta.entry) bytes.now above)) }
     ensures inside { IfOk result (λ value. LiesIn value bytes.now) }
+    ensures metadata { IfOk result (λ value. HasMetadata value (bytes_of meta.entry)) }
 {
     let room = MAX_NESTING - above;
     match check(&meta, bytes, room) {

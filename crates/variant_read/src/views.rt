@@ -56,14 +56,14 @@ pub struct ObjectView<'a> {
 /// An array whose offsets have `OW` bytes, from 1 to 4.
 #[derive(Clone, Copy)]
 pub struct ArrayRef<'a, const OW: usize> {
-    pub(crate) view: ArrayView<'a>,
+    pub view: ArrayView<'a>,
     ghost offsets: { offset_size view.of.layout.bytes.now ≡ OW },
 }
 
 /// An object whose offsets have `OW` bytes and whose ids have `IW`, each from 1 to 4.
 #[derive(Clone, Copy)]
 pub struct ObjectRef<'a, const OW: usize, const IW: usize> {
-    pub(crate) view: ObjectView<'a>,
+    pub view: ObjectView<'a>,
     ghost offsets: { offset_size view.of.layout.bytes.now ≡ OW },
     ghost ids: { id_size view.of.layout.bytes.now ≡ IW },
 }
