@@ -1,29 +1,21 @@
 -- The walk over the items of an object or array: what is left of it after some items.
-use Rattle.std.proofs.Common.{◌≡◌, ◌∙◌, refl, sym, ap, ℕ, zero, suc, pred, ◌+◌, ◌-◌, ◌<◌, ◌≤◌, List, ◌∷◌, length, drop, Bool, true, false, cond, Option, None, Some, Result, Ok, Err, arith}
+use Rattle.std.proofs.Common.{◌≡◌, ◌∙◌, ◌⊎◌, inl, inr, refl, sym, ap, ℕ, zero, suc, pred, ◌+◌, ◌-◌, ◌<◌, ◌≤◌, List, ◌∷◌, length, drop, Bool, true, false, cond, Option, None, Some, Result, Ok, Err, arith}
 use Rattle.std.specs.Prelude.{◌==◌, nat_lt}
-use Rattle.std.proofs.lemmas.Bool.{le-ltb, lt-ltb, le-leb, lt-leb}
+use Rattle.std.proofs.lemmas.Bool.{cases_lt, le-ltb, lt-ltb, le-leb, lt-leb}
 use Rattle.std.proofs.lemmas.Bool.Decides.{nat_tests}
 use Rattle.json_tree.specs.Json.{Json}
 use Rattle.vs_bytes.specs.Outcome.{◌>>=◌}
 use Rattle.vs_bytes.specs.declared.rule.Rule.{Rule}
 use Rattle.vs_bytes.specs.declared.rule.Rule.TheVariants.{ValueShort, ValueTooDeep, FieldId, FieldOrder, Offsets}
 use Rattle.variant_meta.specs.Names.{name_at, is_before}
-use Rattle.variant_read.specs.Judging.{used_with, allowed_id}
+use Rattle.variant_read.specs.Judging.{used_with, size_from, allowed_id, AllAllowed, IsRun}
 use Rattle.variant_read.specs.Layout.{basic_type, is_object, count, field_id, offset, region, fixed_size, last_offset, container_size}
 use Rattle.variant_read.specs.Primitives.{Kind, Meaning, primitive, short_string, unread_kind}
 use Rattle.variant_read.specs.Meaning.{field_name, field_fault, entries_from, entries, unless_fault, items_at, with_items, container, size_in, by_basic_type, value_of, value_within}
 
--- the container's size where the items from item k on violate no rule. The earlier ones are `used` bytes long together
-unfoldable pub left : Kind → List (List ℕ) → List ℕ → ℕ → ℕ → Result ℕ Rule
-left value names bytes k used = items_at value (region bytes) used (entries_from names bytes k (count bytes - k)) >>= λ _. Ok (container_size bytes)
-
--- the same where the id of field k violates none
-abbrev pub from_item : Kind → List (List ℕ) → List ℕ → ℕ → ℕ → Result ℕ Rule
-from_item value names bytes k used = used_with value (region bytes) used (offset bytes k) >>= λ all. left value names bytes (k + 1) all
-
-pub left_end : (value : Kind) (names : List (List ℕ)) (bytes : List ℕ) (k used : ℕ) → count bytes ≤ k → left value names bytes k used ≡ Ok (container_size bytes)
-unfolding left entries_from items_at
-left_end value names bytes k used past = let e : count bytes - k ≡ 0 = omega (arith, past) in rw e refl
+pub size_end : (value : Kind) (names : List (List ℕ)) (bytes : List ℕ) (k used : ℕ) → count bytes ≤ k → size_from value names bytes k used ≡ Ok (container_size bytes)
+unfolding size_from entries_from items_at
+size_end value names bytes k used past = let e : count bytes - k ≡ 0 = omega (arith, past) in rw e refl
 
 sized : (value : Kind) (area : List ℕ) (used at size : ℕ) (es : List (Option Rule × ℕ)) (f : Option Rule) → (items_at value area used ((f, at) ∷ es) >>= λ _. Ok size) ≡ (unless_fault f >>= λ _. used_with value area used at >>= λ all. items_at value area all es >>= λ _. Ok size)
 unfolding items_at used_with
@@ -46,17 +38,21 @@ sized value area used at size es None = by (nat_lt (length area) at)
     by true = refl
     by false = by_value (value (drop at area))
 
+-- item k and those after it, where its id violates no rule
+abbrev from_item : Kind → List (List ℕ) → List ℕ → ℕ → ℕ → Result ℕ Rule
+from_item value names bytes k used = used_with value (region bytes) used (offset bytes k) >>= λ all. size_from value names bytes (k + 1) all
+
 -- a turn
-turned : (value : Kind) (names : List (List ℕ)) (bytes : List ℕ) (k used : ℕ) → k < count bytes → left value names bytes k used ≡ (unless_fault (field_fault names bytes k) >>= λ _. from_item value names bytes k used)
-unfolding left entries_from
+turned : (value : Kind) (names : List (List ℕ)) (bytes : List ℕ) (k used : ℕ) → k < count bytes → size_from value names bytes k used ≡ (unless_fault (field_fault names bytes k) >>= λ _. from_item value names bytes k used)
+unfolding size_from entries_from
 turned value names bytes k used inside =
     let e : count bytes - k ≡ suc (count bytes - (k + 1)) = omega (arith, inside) in
     let next : k + 1 ≡ suc k = omega arith in
     rw (e, next) (sized value (region bytes) used (offset bytes k) (container_size bytes) (entries_from names bytes (suc k) (count bytes - suc k)) (field_fault names bytes k))
 
-pub left_whole : (names : List (List ℕ)) (value : Kind) (bytes : List ℕ) → fixed_size bytes + last_offset bytes ≤ length bytes → size_in (container names value bytes) ≡ left value names bytes 0 0
-unfolding left container entries container_size
-left_whole names value bytes there =
+pub size_whole : (names : List (List ℕ)) (value : Kind) (bytes : List ℕ) → fixed_size bytes + last_offset bytes ≤ length bytes → size_in (container names value bytes) ≡ size_from value names bytes 0 0
+unfolding size_from container entries container_size
+size_whole names value bytes there =
     let all : count bytes - 0 ≡ count bytes = omega arith in
     rw (le-ltb (length bytes) (fixed_size bytes + last_offset bytes) there, all) (by (items_at value (region bytes) 0 (entries_from names bytes 0 (count bytes))))
   where
@@ -68,34 +64,61 @@ pub short_whole : (names : List (List ℕ)) (value : Kind) (bytes : List ℕ) �
 unfolding container
 short_whole names value bytes short = rw (lt-ltb (length bytes) (container_size bytes) short) refl
 
-pub element_turn : (value : Kind) (names : List (List ℕ)) (bytes : List ℕ) (k used : ℕ) → is_object bytes ≡ false → k < count bytes → left value names bytes k used ≡ from_item value names bytes k used
-unfolding field_fault
-element_turn value names bytes k used is inside = turned value names bytes k used inside ∙ rw is refl
+-- What is known of the whole after a turn.
 
-pub field_turn : (value : Kind) (names : List (List ℕ)) (bytes : List ℕ) (k used : ℕ) → k < count bytes → left value names bytes k used ≡ (allowed_id names bytes k >>= λ _. from_item value names bytes k used)
+pub item_passed : (value : Kind) (names : List (List ℕ)) (bytes : List ℕ) (k used all : ℕ) (whole : Result ℕ Rule) → whole ≡ size_from value names bytes k used → k < count bytes → field_fault names bytes k ≡ None → used_with value (region bytes) used (offset bytes k) ≡ Ok all → whole ≡ size_from value names bytes (k + 1) all
+item_passed value names bytes k used all whole start inside allowed with = start ∙ turned value names bytes k used inside ∙ rw (allowed, with) refl
+
+pub item_failed : (value : Kind) (names : List (List ℕ)) (bytes : List ℕ) (k used : ℕ) (rule : Rule) (whole : Result ℕ Rule) → whole ≡ size_from value names bytes k used → k < count bytes → field_fault names bytes k ≡ None → used_with value (region bytes) used (offset bytes k) ≡ Err rule → whole ≡ Err rule
+item_failed value names bytes k used rule whole start inside allowed with = start ∙ turned value names bytes k used inside ∙ rw (allowed, with) refl
+
+-- The run of items whose ids violate no rule.
+
+pub run_whole : (names : List (List ℕ)) (bytes : List ℕ) (len size : ℕ) → len ≡ count bytes → size ≡ container_size bytes → AllAllowed names bytes len → IsRun names bytes len (Ok size)
+run_whole names bytes len size all is good = record {
+  most = omega (arith, all);
+  allowed = good;
+  after = λ value used. size_end value names bytes len used (omega (arith, all)) ∙ ap (λ (n : ℕ). Ok n) (sym is);
+}
+
+pub run_array : (names : List (List ℕ)) (bytes : List ℕ) (len size : ℕ) → is_object bytes ≡ false → len ≡ count bytes → size ≡ container_size bytes → IsRun names bytes len (Ok size)
+unfolding field_fault
+run_array names bytes len size array all is = run_whole names bytes len size all is (λ j h. rw array refl)
+
+pub run_broken : (names : List (List ℕ)) (bytes : List ℕ) (k : ℕ) (rule : Rule) → k < count bytes → AllAllowed names bytes k → allowed_id names bytes k ≡ Err rule → IsRun names bytes k (Err rule)
 unfolding allowed_id
-field_turn value names bytes k used inside = turned value names bytes k used inside ∙ by (field_fault names bytes k)
+run_broken names bytes k rule inside good bad = record {
+  most = omega (arith, inside);
+  allowed = good;
+  after = λ value used. turned value names bytes k used inside ∙ by (field_fault names bytes k) bad (from_item value names bytes k used);
+}
   where
-    by : (f : Option Rule) → (unless_fault f >>= λ _. from_item value names bytes k used) ≡ ((unless_fault f >>= λ _. Ok (field_id bytes k)) >>= λ _. from_item value names bytes k used)
-    by None = refl
-    by (Some rule) = refl
+    by : (f : Option Rule) → (unless_fault f >>= λ _. Ok (field_id bytes k)) ≡ Err rule → (r : Result ℕ Rule) → (unless_fault f >>= λ _. r) ≡ Err rule
+    by None h r = absurd (cc)
+    by (Some other) h r = let same : other ≡ rule = cc in ap (λ (x : Rule). Err x) same
+
+given : (names : List (List ℕ)) (bytes : List ℕ) (k id : ℕ) → allowed_id names bytes k ≡ Ok id → (field_fault names bytes k ≡ None) × (id ≡ field_id bytes k)
+unfolding allowed_id
+given names bytes k id e = by (field_fault names bytes k) e
+  where
+    by : (f : Option Rule) → (unless_fault f >>= λ _. Ok (field_id bytes k)) ≡ Ok id → (f ≡ None) × (id ≡ field_id bytes k)
+    by None h = (refl, cc)
+    by (Some rule) h = absurd (cc)
+
+pub id_given : (names : List (List ℕ)) (bytes : List ℕ) (k id : ℕ) → allowed_id names bytes k ≡ Ok id → id ≡ field_id bytes (k + 1 - 1)
+id_given names bytes k id e = let one : k + 1 - 1 ≡ k = omega arith in rw one (given names bytes k id e).1
+
+pub one_more : (names : List (List ℕ)) (bytes : List ℕ) (k id : ℕ) → AllAllowed names bytes k → allowed_id names bytes k ≡ Ok id → AllAllowed names bytes (k + 1)
+one_more names bytes k id good e j less = by (cases_lt j k)
+  where
+    by : (j < k) ⊎ (k ≤ j) → field_fault names bytes j ≡ None
+    by (inl low) = good j low
+    by (inr high) = let same : j ≡ k = omega (arith, high, less) in rw same (given names bytes k id e).0
+
+-- The id of a field.
 
 above : (n k : ℕ) → k < n → (n == k) ≡ false
 above n k h = grind (arith, nat_tests)
-
--- what is known after a turn
-pub field_passed : (value : Kind) (names : List (List ℕ)) (bytes : List ℕ) (k used id all : ℕ) (whole : Result ℕ Rule) → whole ≡ left value names bytes k used → k < count bytes → allowed_id names bytes k ≡ Ok id → used_with value (region bytes) used (offset bytes k) ≡ Ok all → whole ≡ left value names bytes (k + 1) all
-field_passed value names bytes k used id all whole start inside allowed with = start ∙ field_turn value names bytes k used inside ∙ rw (allowed, with) refl
-
-pub id_given : (names : List (List ℕ)) (bytes : List ℕ) (k id : ℕ) → allowed_id names bytes k ≡ Ok id → id ≡ field_id bytes (k + 1 - 1)
-unfolding allowed_id
-id_given names bytes k id e = let one : k + 1 - 1 ≡ k = omega arith in rw one (by (field_fault names bytes k) e)
-  where
-    by : (f : Option Rule) → (unless_fault f >>= λ _. Ok (field_id bytes k)) ≡ Ok id → id ≡ field_id bytes k
-    by None h = cc
-    by (Some rule) h = absurd (cc)
-
--- The id of a field.
 
 pub id_unknown : (names : List (List ℕ)) (bytes : List ℕ) (k : ℕ) → is_object bytes ≡ true → length names ≤ field_id bytes k → allowed_id names bytes k ≡ Err FieldId
 unfolding allowed_id field_fault

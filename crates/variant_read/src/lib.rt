@@ -3,6 +3,7 @@
 
 mod arrays;
 mod containers;
+mod ids;
 mod judging;
 mod layout;
 mod objects;
