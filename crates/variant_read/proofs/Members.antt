@@ -135,7 +135,7 @@ named_nowhere name (member ∷ members) e = by (bytes_eq member.0 name) e (named
     by true e rest = absurd (omega (arith, e))
     by false e rest = rest (omega (arith, e))
 
--- What is inside nests less deep.
+-- What is inside nests less deep: what a recursion over views falls by.
 
 pub item_depth : (items : List Json) (k : ℕ) (j : Json) → slice_get items k ≡ Some j → depth_of j ≤ parts_depth (parts_of items)
 item_depth [] k j h = absurd (cc)

@@ -6,7 +6,11 @@ ghost use Rattle.variant_read.specs.Layout.{basic_type, type_header, is_object, 
 
 use vs_bytes::{Le, number_at, part};
 
-// The basic type of objects.
+// The basic types.
+pub(crate) const PRIMITIVE_TYPE: u8 = 0;
+
+pub(crate) const SHORT_STRING_TYPE: u8 = 1;
+
 const OBJECT_TYPE: u8 = 2;
 
 /// An object or array that is there in full.

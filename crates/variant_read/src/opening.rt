@@ -5,7 +5,7 @@ ghost use Rattle.variant_meta.specs.MetaRefs.{names_of, bytes_of};
 ghost use Rattle.variant_read.specs.Meaning.{container, value_within, json_in};
 ghost use Rattle.variant_read.specs.View.{json_of, scalar_json, LiesIn, ScalarLiesIn, HasMetadata};
 
-use crate::layout::{Layout, basic_type};
+use crate::layout::{Layout, PRIMITIVE_TYPE, SHORT_STRING_TYPE, basic_type};
 use crate::scalars::{opened_primitive, opened_short_string};
 use crate::views::{ArrayView, Container, ObjectView, Scalar, ValueRef};
 use variant_meta::MetaRef;
@@ -51,8 +51,8 @@ pub(crate) fn opened<'a>(meta: MetaRef<'a>, bytes: &'a [u8], room: u8) -> ValueR
     ensures metadata { HasMetadata result (bytes_of meta.entry) }
 {
     match basic_type(bytes) {
-        0 => opened_scalar(opened_primitive(bytes)),
-        1 => ValueRef::Text(opened_short_string(bytes)),
+        PRIMITIVE_TYPE => opened_scalar(opened_primitive(bytes)),
+        SHORT_STRING_TYPE => ValueRef::Text(opened_short_string(bytes)),
         _ => opened_container(meta, bytes, room - 1),
     }
 }

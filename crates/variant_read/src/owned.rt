@@ -11,7 +11,7 @@ ghost use Rattle.variant_read.specs.Layout.{is_object};
 ghost use Rattle.variant_read.specs.Meaning.{container, value_within, json_in};
 ghost use Rattle.variant_read.specs.View.{json_of, scalar_json};
 
-use crate::layout::{Layout, basic_type};
+use crate::layout::{Layout, PRIMITIVE_TYPE, SHORT_STRING_TYPE, basic_type};
 use crate::scalars::{opened_primitive, opened_short_string};
 use crate::views::{Scalar, ValueRef};
 use json_tree::{Items, Members, Tree};
@@ -123,8 +123,8 @@ fn tree_at(alloc: Global, meta: &MetaRef, bytes: &[u8], room: u8) -> Result<Tree
     ensures { IfOk result (λ tree. json_in (value_within (names_of meta.now) room bytes.now) ≡ Ok (view tree)) }
 {
     match basic_type(bytes) {
-        0 => scalar_tree(alloc, opened_primitive(bytes)),
-        1 => scalar_tree(alloc, Scalar::Text(opened_short_string(bytes))),
+        PRIMITIVE_TYPE => scalar_tree(alloc, opened_primitive(bytes)),
+        SHORT_STRING_TYPE => scalar_tree(alloc, Scalar::Text(opened_short_string(bytes))),
         _ => container_tree(alloc, meta, bytes, room - 1),
     }
 }

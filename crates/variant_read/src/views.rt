@@ -10,6 +10,9 @@ use exact_num::Number;
 use variant_meta::MetaRef;
 
 /// A Variant value, read in place.
+///
+/// Integers and decimals of every width are numbers, and both kinds of string are texts (VariantEncoding.md,
+/// "Value encoding").
 #[derive(Clone, Copy)]
 pub enum ValueRef<'a> {
     Null,
