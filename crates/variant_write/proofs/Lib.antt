@@ -1,1 +1,2 @@
+pub mod NumberKinds
 pub mod Samples

@@ -1,5 +1,5 @@
 -- Values worked out by hand from the standard, byte by byte.
-use Rattle.std.proofs.Common.{◌≡◌, refl, ℕ, ◌-◌, ◌^◌, List, [], ◌∷◌, ◌++◌, length, take, replicate, pos, negsuc, true}
+use Rattle.std.proofs.Common.{◌≡◌, refl, ℕ, ◌-◌, ◌^◌, [], ◌∷◌, ◌++◌, length, take, replicate, pos, negsuc, true}
 use Rattle.exact_num.specs.Unscaled.{half, unsigned_number}
 use Rattle.json_tree.specs.Json as json
 use Rattle.vs_bytes.specs.Numbers.{width_of}

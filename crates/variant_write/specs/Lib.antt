@@ -1,5 +1,6 @@
 pub mod Chosen
 pub mod Coded
 pub mod Conditions
+pub mod Dictionaries
 pub mod Layout
 pub mod Primitives
