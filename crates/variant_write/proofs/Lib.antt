@@ -1,2 +1,3 @@
 pub mod NumberKinds
+pub mod Packing
 pub mod Samples

@@ -20,6 +20,11 @@ pub record IsWidths (widths : Widths) : Type 0 where
   pub id_least : 1 ≤ widths.id
   pub id_most : widths.id ≤ max_width
 
+-- ends that rise weakly, from `low` on, up to `high`
+abbrev pub RiseTo : ℕ → List ℕ → ℕ → Type 0
+RiseTo low [] high = low ≡ high
+RiseTo low (end ∷ ends) high = (low ≤ end) × RiseTo end ends high
+
 -- the dictionary has the name
 abbrev pub HasName : List (List ℕ) → List ℕ → Type 0
 HasName names name = place_of names name < length names

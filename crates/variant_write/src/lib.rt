@@ -4,9 +4,12 @@
 //! |---|---|
 //! | `widths` | `Widths`: the least widths of numbers |
 //! | `primitives` | null, booleans, numbers and texts, written |
+//! | `composer` | `Composer`: objects and arrays of values that are there already, written |
 #![tactic(auto)]
 
+mod composer;
 mod primitives;
 mod widths;
 
+pub use composer::Composer;
 pub use widths::Widths;
