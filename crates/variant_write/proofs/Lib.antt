@@ -1,3 +1,6 @@
 pub mod NumberKinds
 pub mod Packing
+pub mod PrimitiveSizes
 pub mod Samples
+pub mod SizeLaw
+pub mod Sizes
