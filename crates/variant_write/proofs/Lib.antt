@@ -1,3 +1,5 @@
+pub mod Limits
+pub mod NameLimits
 pub mod NumberKinds
 pub mod Packing
 pub mod PrimitiveSizes

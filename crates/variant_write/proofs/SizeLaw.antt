@@ -1,7 +1,7 @@
 -- The bytes of a value are at most six times as many as those of its canonical text.
 use Rattle.std.proofs.Common.{◌≡◌, refl, ap, ℕ, suc, ◌+◌, ◌*◌, ◌≤◌, Bool, true, false, List, [], ◌∷◌, ◌++◌, length, length-append, arith}
 use Rattle.std.specs.List.{concat}
-use Rattle.json_tree.specs.Json.{Json, null, boolean, number, text, array, object, Parts, no_parts, part, Fields, no_fields, field, names_of}
+use Rattle.json_tree.specs.Json.{Json, null, boolean, number, text, array, object, Parts, no_parts, part, Fields, no_fields, field, items_of, names_of}
 use Rattle.json_tree.specs.Text.{quoted, text_of, more_parts, more_fields}
 use Rattle.variant_write.specs.Coded.{ids_of, greatest, id_size, coded, elements_coded, values_coded}
 use Rattle.variant_write.specs.Conditions.{IsWidths}
@@ -30,10 +30,10 @@ field_text name j fields =
 
 -- ---- the counts
 
-pub elements_count : (names : List (List ℕ)) (elements : Parts) (widths : Widths) → length (elements_coded names elements widths) ≤ length (more_parts elements)
+pub elements_count : (names : List (List ℕ)) (elements : Parts) (widths : Widths) → length (elements_coded names elements widths) ≡ length (items_of elements)
 unfolding elements_coded
-elements_count names no_parts widths = omega arith
-elements_count names (part j elements) widths = omega (arith, part_text j elements, elements_count names elements widths)
+elements_count names no_parts widths = refl
+elements_count names (part j elements) widths = ap suc (elements_count names elements widths)
 
 pub values_count : (names : List (List ℕ)) (fields : Fields) (widths : Widths) → length (values_coded names fields widths) ≡ length (names_of fields)
 unfolding values_coded
