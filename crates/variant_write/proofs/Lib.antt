@@ -1,8 +1,11 @@
+pub mod DictionaryNames
 pub mod Limits
 pub mod NameLimits
+pub mod NamesAmong
 pub mod NumberKinds
 pub mod Packing
 pub mod PrimitiveSizes
+pub mod Rising
 pub mod Samples
 pub mod SizeLaw
 pub mod Sizes
