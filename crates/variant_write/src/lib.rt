@@ -5,14 +5,17 @@
 //! | `widths` | `Widths`: the least widths of numbers |
 //! | `primitives` | null, booleans, numbers and texts, written |
 //! | `composer` | `Composer`: objects and arrays of values that are there already, written |
+//! | `collecting` | `dictionary_of`: the names of all objects in a value |
 //! | `laws` | what is written is short |
 #![tactic(auto)]
 
+mod collecting;
 mod composer;
 mod laws;
 mod primitives;
 mod widths;
 
+pub use collecting::dictionary_of;
 pub use composer::Composer;
 pub use laws::coded_is_short;
 pub use widths::Widths;
