@@ -5,6 +5,7 @@
 //! | `widths` | `Widths`: the least widths of numbers |
 //! | `primitives` | null, booleans, numbers and texts, written |
 //! | `composer` | `Composer`: objects and arrays of values that are there already, written |
+//! | `turning` | an object or array round items that stand there already |
 //! | `collecting` | `dictionary_of`: the names of all objects in a value |
 //! | `laws` | what is written is short |
 #![tactic(auto)]
@@ -13,6 +14,7 @@ mod collecting;
 mod composer;
 mod laws;
 mod primitives;
+mod turning;
 mod widths;
 
 pub use collecting::dictionary_of;
