@@ -1,4 +1,5 @@
 pub mod DictionaryNames
+pub mod Gathering
 pub mod Limits
 pub mod NameLimits
 pub mod NamesAmong
@@ -9,3 +10,4 @@ pub mod Rising
 pub mod Samples
 pub mod SizeLaw
 pub mod Sizes
+pub mod Walks

@@ -7,11 +7,15 @@
 //! | `composer` | `Composer`: objects and arrays of values that are there already, written |
 //! | `turning` | an object or array round items that stand there already |
 //! | `collecting` | `dictionary_of`: the names of all objects in a value |
+//! | `field_ids` | the ids of an object's fields |
+//! | `encoding` | `encode`: the bytes of a value |
 //! | `laws` | what is written is short |
 #![tactic(auto)]
 
 mod collecting;
 mod composer;
+mod encoding;
+mod field_ids;
 mod laws;
 mod primitives;
 mod turning;
@@ -19,5 +23,6 @@ mod widths;
 
 pub use collecting::dictionary_of;
 pub use composer::Composer;
+pub use encoding::encode;
 pub use laws::coded_is_short;
 pub use widths::Widths;

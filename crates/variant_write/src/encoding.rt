@@ -1,0 +1,181 @@
+//! Values, written.
+
+ghost use Rattle.std.specs.Prelude.{◌≡◌, ◌≤◌, ◌++◌, length, map, drop, OnOk, OnErr};
+ghost use Rattle.std.specs.List.{concat};
+ghost use Rattle.json_tree.specs.Json.{array, object, parts_of, fields_of};
+ghost use Rattle.json_tree.specs.Text.{text_of, more_parts, more_fields};
+ghost use Rattle.json_tree.specs.View.{view, seen};
+ghost use Rattle.vs_bytes.specs.Outcome.{Grows};
+ghost use Rattle.variant_meta.specs.Written.{ends_from};
+ghost use Rattle.variant_write.specs.Coded.{coded, elements_coded, values_coded};
+ghost use Rattle.variant_write.specs.Conditions.{IsWidths, HasNames, ElementsHaveNames, FieldsHaveNames, max_text_len};
+
+use crate::field_ids::set_ids;
+use crate::primitives::{append_bool, append_decimal_number, append_null, append_text};
+use crate::turning::{turn_array, turn_object};
+use crate::widths::Widths;
+use json_tree::Tree;
+use variant_meta::Dictionary;
+use vs_bytes::{NoMemory, Text};
+
+/// Appends the bytes of a value. After an `Err` the bytes are as before.
+pub fn encode(
+    into: &mut Vec<u8>,
+    dict: &Dictionary,
+    tree: &Tree,
+    widths: Widths,
+) -> Result<(), NoMemory>
+    requires names { HasNames dict.now (view tree.now) }
+    requires small { length (text_of (view tree.now)) ≤ max_text_len }
+    requires widths { IsWidths widths }
+    ensures ok { OnOk result (into.new.items ≡ into.old.items ++ coded dict.now (view tree.now) widths) }
+    ensures err { OnErr result (into.new.items ≡ into.old.items) }
+{
+    let before = into.len();
+    let mut ends = Vec::new(*into.allocator());
+    let mut ids = Vec::new(*into.allocator());
+    let done = append(into, &mut ends, &mut ids, dict, tree, widths);
+    if done.is_err() {
+        into.truncate(before);
+    }
+    done
+}
+
+// The items in the end of an open list.
+fn since(ends: &[u32], first: usize) -> &[u32]
+    requires { first ≤ length ends.now }
+    ensures { result.now ≡ drop first ends.now }
+{
+    ends.split_at(first).1
+}
+
+// `ends` has a place for each item of the arrays and objects that are open. Those of this value are gone again.
+#[cycle(append)]
+#[tactic(auto, unfolding(crate::specs::Coded::coded))]
+fn append(
+    into: &mut Vec<u8>,
+    ends: &mut Vec<u32>,
+    ids: &mut Vec<u32>,
+    dict: &Dictionary,
+    tree: &Tree,
+    widths: Widths,
+) -> Result<(), NoMemory>
+    requires names { HasNames dict.now (view tree.now) }
+    requires small { length (text_of (view tree.now)) ≤ max_text_len }
+    requires widths { IsWidths widths }
+    ensures ok { OnOk result (into.new.items ≡ into.old.items ++ coded dict.now (view tree.now) widths) }
+    ensures ends { OnOk result (ends.new.items ≡ ends.old.items) }
+    ensures grows { Grows into.old.items into.new.items }
+{
+    match tree {
+        Tree::Null => append_null(into),
+        Tree::Bool(truth) => append_bool(into, *truth),
+        Tree::Num(number) => append_decimal_number(into, *number),
+        Tree::Text(text) => append_text(into, text.as_bytes()),
+        Tree::Array(items) => append_array(into, ends, ids, dict, items.as_slice(), widths),
+        Tree::Object(members) => append_object(into, ends, ids, dict, members.as_slice(), widths),
+    }
+}
+
+#[cycle(append)]
+fn append_array(
+    into: &mut Vec<u8>,
+    ends: &mut Vec<u32>,
+    ids: &mut Vec<u32>,
+    dict: &Dictionary,
+    trees: &[Tree],
+    widths: Widths,
+) -> Result<(), NoMemory>
+    requires names { ElementsHaveNames dict.now (parts_of (map view trees.now)) }
+    requires small { length (more_parts (parts_of (map view trees.now))) ≤ max_text_len }
+    requires widths { IsWidths widths }
+    ensures ok { OnOk result (into.new.items ≡ into.old.items ++ coded dict.now (array (parts_of (map view trees.now))) widths) }
+    ensures ends { OnOk result (ends.new.items ≡ ends.old.items) }
+    ensures grows { Grows into.old.items into.new.items }
+{
+    let start = into.len();
+    let first = ends.len();
+    append_elements(into, ends, ids, dict, trees, widths)?;
+    turn_array(into, start, since(ends.as_slice(), first), widths)?;
+    ends.truncate(first);
+    Ok(())
+}
+
+#[cycle(append)]
+fn append_elements(
+    into: &mut Vec<u8>,
+    ends: &mut Vec<u32>,
+    ids: &mut Vec<u32>,
+    dict: &Dictionary,
+    trees: &[Tree],
+    widths: Widths,
+) -> Result<(), NoMemory>
+    requires names { ElementsHaveNames dict.now (parts_of (map view trees.now)) }
+    requires small { length (more_parts (parts_of (map view trees.now))) ≤ max_text_len }
+    requires widths { IsWidths widths }
+    ensures ok { OnOk result (into.new.items ≡ into.old.items ++ concat (elements_coded dict.now (parts_of (map view trees.now)) widths)) }
+    ensures ends { OnOk result (ends.new.items ≡ ends.old.items ++ ends_from 0 (elements_coded dict.now (parts_of (map view trees.now)) widths)) }
+    ensures grows { Grows into.old.items into.new.items }
+{
+    let start = into.len();
+    for tree in trees {
+        append(into, ends, ids, dict, tree, widths)?;
+        ends.push((into.len() - start) as u32)?;
+    }
+    Ok(())
+}
+
+#[cycle(append)]
+fn append_object(
+    into: &mut Vec<u8>,
+    ends: &mut Vec<u32>,
+    ids: &mut Vec<u32>,
+    dict: &Dictionary,
+    pairs: &[(Text, Tree)],
+    widths: Widths,
+) -> Result<(), NoMemory>
+    requires names { FieldsHaveNames dict.now (fields_of (map seen pairs.now)) }
+    requires small { length (more_fields (fields_of (map seen pairs.now))) ≤ max_text_len }
+    requires widths { IsWidths widths }
+    ensures ok { OnOk result (into.new.items ≡ into.old.items ++ coded dict.now (object (fields_of (map seen pairs.now))) widths) }
+    ensures ends { OnOk result (ends.new.items ≡ ends.old.items) }
+    ensures grows { Grows into.old.items into.new.items }
+{
+    let start = into.len();
+    let first = ends.len();
+    append_values(into, ends, ids, dict, pairs, widths)?;
+    set_ids(ids, dict, pairs)?;
+    turn_object(
+        into,
+        start,
+        ids.as_slice(),
+        since(ends.as_slice(), first),
+        widths,
+    )?;
+    ends.truncate(first);
+    Ok(())
+}
+
+#[cycle(append)]
+fn append_values(
+    into: &mut Vec<u8>,
+    ends: &mut Vec<u32>,
+    ids: &mut Vec<u32>,
+    dict: &Dictionary,
+    pairs: &[(Text, Tree)],
+    widths: Widths,
+) -> Result<(), NoMemory>
+    requires names { FieldsHaveNames dict.now (fields_of (map seen pairs.now)) }
+    requires small { length (more_fields (fields_of (map seen pairs.now))) ≤ max_text_len }
+    requires widths { IsWidths widths }
+    ensures ok { OnOk result (into.new.items ≡ into.old.items ++ concat (values_coded dict.now (fields_of (map seen pairs.now)) widths)) }
+    ensures ends { OnOk result (ends.new.items ≡ ends.old.items ++ ends_from 0 (values_coded dict.now (fields_of (map seen pairs.now)) widths)) }
+    ensures grows { Grows into.old.items into.new.items }
+{
+    let start = into.len();
+    for pair in pairs {
+        append(into, ends, ids, dict, &pair.1, widths)?;
+        ends.push((into.len() - start) as u32)?;
+    }
+    Ok(())
+}
