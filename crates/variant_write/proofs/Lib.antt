@@ -1,3 +1,4 @@
+pub mod ChosenMembers
 pub mod DictionaryNames
 pub mod Gathering
 pub mod Limits

@@ -1,14 +1,26 @@
-//! How long what is written is. The law is a contract of an empty function.
+//! The laws of what is written. Each is the contract of an empty function.
 
-ghost use Rattle.std.specs.Prelude.{◌≤◌, ◌*◌, ℕ, List, length};
-ghost use Rattle.json_tree.specs.Json.{Json};
+ghost use Rattle.std.specs.Prelude.{◌≤◌, ◌*◌, ℕ, Bool, List, length};
+ghost use Rattle.json_tree.specs.Json.{Json, Fields, object, depth_of};
+ghost use Rattle.json_tree.specs.Order.{IsOrdered};
 ghost use Rattle.json_tree.specs.Text.{text_of};
+ghost use Rattle.json_tree.specs.Valid.{IsValid};
+ghost use Rattle.variant_write.specs.Chosen.{chosen};
 ghost use Rattle.variant_write.specs.Coded.{coded};
-ghost use Rattle.variant_write.specs.Conditions.{IsWidths};
+ghost use Rattle.variant_write.specs.Conditions.{IsWidths, HasNames};
 ghost use Rattle.variant_write.specs.declared.widths.Widths.{Widths};
 
 /// The bytes of a value are at most six times as many as those of its canonical text, whatever the dictionary and
 /// the widths.
 pub fn coded_is_short()
     ensures { (names : List (List ℕ)) (json : Json) (widths : Widths) → IsWidths widths → length (coded names json widths) ≤ 6 * length (text_of json) }
+{}
+
+/// What the writers ask of an object holds of the object of some of its members, and its text is no longer.
+pub fn chosen_members_keep()
+    ensures short { (kept : List Bool) (fields : Fields) → length (text_of (object (chosen kept fields))) ≤ length (text_of (object fields)) }
+    ensures depth { (kept : List Bool) (fields : Fields) → depth_of (object (chosen kept fields)) ≤ depth_of (object fields) }
+    ensures names { (names : List (List ℕ)) (kept : List Bool) (fields : Fields) → HasNames names (object fields) → HasNames names (object (chosen kept fields)) }
+    ensures ordered { (kept : List Bool) (fields : Fields) → IsOrdered (object fields) → IsOrdered (object (chosen kept fields)) }
+    ensures valid { (kept : List Bool) (fields : Fields) → IsValid (object fields) → IsValid (object (chosen kept fields)) }
 {}
