@@ -11,7 +11,7 @@ use Rattle.variant_write.specs.Conditions.{max_text_len, HasNames, ElementsHaveN
 use Rattle.variant_write.specs.Dictionaries.{added, each_once, dictionary}
 use Rattle.variant_write.proofs.NameLimits.{names_few, names_small}
 use Rattle.variant_write.proofs.NamesAmong.{Among, among_from_contains, contains_from_among, among_left, among_right, has_name}
-use Rattle.variant_write.proofs.Rising.{once_rises, once_keeps, once_is}
+use Rattle.variant_write.proofs.Rising.{once_rises, once_keeps, once_only, once_is}
 
 -- ---- a list of all names of a value has them
 
@@ -38,6 +38,17 @@ pub dictionary_has : (j : Json) → HasNames (dictionary j) j
 unfolding dictionary
 dictionary_has j = names_held (each_once (object_names j)) j (once_keeps (object_names j))
 
+pub dictionary_rises : (j : Json) → names_rise (dictionary j) ≡ true
+unfolding dictionary
+dictionary_rises j = once_rises (object_names j)
+
+pub dictionary_same : (j : Json) (x : List ℕ) → Contains (dictionary j) x ↔ Contains (object_names j) x
+unfolding dictionary
+dictionary_same j x = (
+  λ a. contains_from_among (object_names j) x (once_only (object_names j) x (among_from_contains (each_once (object_names j)) x a)),
+  λ a. contains_from_among (each_once (object_names j)) x (once_keeps (object_names j) x (among_from_contains (object_names j) x a)),
+)
+
 -- the same of names that were gathered: `names` has the names of all objects of the value, and a dictionary has
 -- these elements
 pub gathered_has : (names gathered : List (List ℕ)) (j : Json) → ((x : List ℕ) → Contains names x ↔ Contains gathered x) → ((x : List ℕ) → Among x (object_names j) → Among x gathered) → HasNames names j
@@ -47,6 +58,9 @@ pub gathered_is : (names gathered : List (List ℕ)) (j : Json) → names_rise n
 unfolding dictionary
 gathered_is names gathered j rise same all only =
     once_is (object_names j) names rise (λ x a. only x (among_from_contains gathered x ((same x).0 (contains_from_among names x a)))) (λ x a. among_from_contains names x ((same x).1 (contains_from_among gathered x (all x a))))
+
+pub dictionary_one : (names : List (List ℕ)) (j : Json) → names_rise names ≡ true → ((x : List ℕ) → Contains names x ↔ Contains (object_names j) x) → names ≡ dictionary j
+dictionary_one names j rise same = gathered_is names (object_names j) j rise same (λ x a. a) (λ x a. a)
 
 -- ---- the dictionary of a short value is within the bounds
 

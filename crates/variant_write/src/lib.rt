@@ -9,7 +9,7 @@
 //! | `collecting` | `dictionary_of`: the names of all objects in a value |
 //! | `field_ids` | the ids of an object's fields |
 //! | `encoding` | `encode`: the bytes of a value |
-//! | `laws` | what is written is short; conditions hold of chosen members |
+//! | `laws` | what is written is short; the dictionary of a value; conditions hold of chosen members |
 #![tactic(auto)]
 
 mod collecting;
@@ -24,5 +24,5 @@ mod widths;
 pub use collecting::dictionary_of;
 pub use composer::Composer;
 pub use encoding::encode;
-pub use laws::{chosen_members_keep, coded_is_short};
+pub use laws::{chosen_members_keep, coded_is_short, dictionary_is_one};
 pub use widths::Widths;
