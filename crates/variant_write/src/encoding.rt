@@ -41,18 +41,21 @@ pub fn encode(
     done
 }
 
-// The items in the end of an open list.
-fn since(ends: &[u32], first: usize) -> &[u32]
+/// The ends from the place `first` on.
+pub(crate) fn since(ends: &[u32], first: usize) -> &[u32]
     requires { first ≤ length ends.now }
     ensures { result.now ≡ drop first ends.now }
 {
     ends.split_at(first).1
 }
 
-// `ends` has a place for each item of the arrays and objects that are open. Those of this value are gone again.
+/// Appends the bytes of a value.
+///
+/// `ends` has the end of each item of the arrays and objects that are being written, and `ids` is room for ids. After
+/// an `Err` the bytes have grown.
 #[cycle(append)]
 #[tactic(auto, unfolding(crate::specs::Coded::coded))]
-fn append(
+pub(crate) fn append(
     into: &mut Vec<u8>,
     ends: &mut Vec<u32>,
     ids: &mut Vec<u32>,
