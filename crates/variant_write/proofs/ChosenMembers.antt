@@ -1,5 +1,5 @@
 -- What holds of an object holds of the object of some of its members.
-use Rattle.std.proofs.Common.{◌≡◌, refl, ℕ, zero, suc, ◌<◌, ◌≤◌, Bool, true, false, cond, List, [], ◌∷◌, ◌++◌, length, length-append, map, get_or, drop, arith}
+use Rattle.std.proofs.Common.{◌≡◌, sym, ◌+◌, refl, ℕ, zero, suc, ◌<◌, ◌≤◌, Bool, true, false, cond, List, [], ◌∷◌, ◌++◌, length, length-append, map, get_or, drop, arith}
 use Rattle.std.specs.Cmp.Lexicographic.{slice_cmp}
 use Rattle.std.specs.List.{AllByRecursion}
 use Rattle.std.specs.List.Sorted.{IsStrictlySortedBy}
@@ -81,10 +81,12 @@ chosen_named names (false ∷ kept) (field name j fields) h = chosen_named names
 
 -- ---- the members from a place on
 
-pub chosen_at : (kept : List Bool) (pairs : List (List ℕ × Tree)) (i : ℕ) (keep : Bool) (pair : List ℕ × Tree) → i < length kept → i < length pairs → keep ≡ get_or kept i keep → pair ≡ get_or pairs i pair
-    → chosen (drop i kept) (fields_of (map seen (drop i pairs))) ≡ cond keep (field pair.0 (view pair.1) (chosen (drop (suc i) kept) (fields_of (map seen (drop (suc i) pairs))))) (chosen (drop (suc i) kept) (fields_of (map seen (drop (suc i) pairs))))
-chosen_at [] pairs i keep pair inside within is same = absurd (omega (arith, inside))
-chosen_at (first ∷ kept) [] i keep pair inside within is same = absurd (omega (arith, within))
-chosen_at (true ∷ kept) (other ∷ pairs) zero keep pair inside within is same = rw (is, same) refl
-chosen_at (false ∷ kept) (other ∷ pairs) zero keep pair inside within is same = rw is refl
-chosen_at (first ∷ kept) (other ∷ pairs) (suc i) keep pair inside within is same = chosen_at kept pairs i keep pair (omega (arith, inside)) (omega (arith, within)) is same
+pub chosen_at : (kept : List Bool) (pairs : List (List ℕ × Tree)) (i : ℕ) (keep : Bool) (d : List ℕ × Tree) → i < length kept → i < length pairs → get_or kept i false ≡ keep
+    → chosen (drop i kept) (fields_of (map seen (drop i pairs))) ≡ cond keep (field (get_or pairs i d).0 (view (get_or pairs i d).1) (chosen (drop (i + 1) kept) (fields_of (map seen (drop (i + 1) pairs))))) (chosen (drop (i + 1) kept) (fields_of (map seen (drop (i + 1) pairs))))
+chosen_at [] pairs i keep d inside within is = absurd (omega (arith, inside))
+chosen_at (first ∷ kept) [] i keep d inside within is = absurd (omega (arith, within))
+chosen_at (true ∷ kept) (other ∷ pairs) zero keep d inside within is = rw (sym is) refl
+chosen_at (false ∷ kept) (other ∷ pairs) zero keep d inside within is = rw (sym is) refl
+chosen_at (first ∷ kept) (other ∷ pairs) (suc i) keep d inside within is =
+    let next : suc i + 1 ≡ suc (i + 1) = omega arith in
+    rw next (chosen_at kept pairs i keep d (omega (arith, inside)) (omega (arith, within)) is)

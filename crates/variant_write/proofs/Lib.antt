@@ -1,4 +1,5 @@
 pub mod ChosenMembers
+pub mod ChosenSteps
 pub mod DictionaryNames
 pub mod Gathering
 pub mod Limits

@@ -9,9 +9,11 @@
 //! | `collecting` | `dictionary_of`: the names of all objects in a value |
 //! | `field_ids` | the ids of an object's fields |
 //! | `encoding` | `encode`: the bytes of a value |
+//! | `choosing` | `encode_members`: the bytes of some members of an object |
 //! | `laws` | what is written is short; the dictionary of a value; conditions hold of chosen members |
 #![tactic(auto)]
 
+mod choosing;
 mod collecting;
 mod composer;
 mod encoding;
@@ -21,6 +23,7 @@ mod primitives;
 mod turning;
 mod widths;
 
+pub use choosing::encode_members;
 pub use collecting::dictionary_of;
 pub use composer::Composer;
 pub use encoding::encode;
