@@ -6,7 +6,7 @@ pub mod Limits
 pub mod NameLimits
 pub mod NamesAmong
 pub mod NumberKinds
-pub mod Packing
+pub mod Fits
 pub mod PrimitiveSizes
 pub mod Rising
 pub mod Samples

@@ -11,8 +11,8 @@ ghost use Rattle.variant_write.specs.Chosen.{chosen};
 ghost use Rattle.variant_write.specs.Coded.{ids_of, coded, values_coded};
 ghost use Rattle.variant_write.specs.Conditions.{IsWidths, HasNames, FieldsHaveNames, max_text_len};
 
+use crate::composing::compose_object;
 use crate::encoding::append;
-use crate::turning::turn_object;
 use crate::widths::Widths;
 use json_tree::{Members, Tree};
 use variant_meta::Dictionary;
@@ -56,20 +56,20 @@ fn append_chosen(
     ensures ok { OnOk result (into.new.items ≡ into.old.items ++ coded dict.now (object (chosen kept.now (fields_of (map seen pairs.now)))) widths) }
     ensures grows { Grows into.old.items into.new.items }
 {
-    let start = into.len();
+    let mut spare = Vec::new(*into.allocator());
     let mut ends = Vec::new(*into.allocator());
-    let mut ids = Vec::new(*into.allocator());
-    append_chosen_values(into, &mut ends, &mut ids, dict, pairs, kept, widths)?;
-    set_chosen_ids(&mut ids, dict, pairs, kept)?;
-    turn_object(into, start, ids.as_slice(), ends.as_slice(), widths)?;
-    Ok(())
+    append_chosen_values(&mut spare, into, &mut ends, dict, pairs, kept, widths)?;
+    let middle = ends.len();
+    append_chosen_ids(&mut ends, dict, pairs, kept)?;
+    let (own, ids) = ends.as_slice().split_at(middle);
+    compose_object(into, ids, own, spare.as_slice(), widths)
 }
 
 // Appends the values of the members that are kept, and where they end after the first one's start.
 fn append_chosen_values(
     into: &mut Vec<u8>,
+    spare: &mut Vec<u8>,
     ends: &mut Vec<u32>,
-    ids: &mut Vec<u32>,
     dict: &Dictionary,
     pairs: &[(Text, Tree)],
     kept: &[bool],
@@ -80,34 +80,35 @@ fn append_chosen_values(
     requires small { length (more_fields (fields_of (map seen pairs.now))) ≤ max_text_len }
     requires widths { IsWidths widths }
     ensures ok { OnOk result (into.new.items ≡ into.old.items ++ concat (values_coded dict.now (chosen kept.now (fields_of (map seen pairs.now))) widths)) }
+    ensures spare { OnOk result (spare.new.items ≡ spare.old.items) }
     ensures ends { OnOk result (ends.new.items ≡ ends.old.items ++ ends_from 0 (values_coded dict.now (chosen kept.now (fields_of (map seen pairs.now))) widths)) }
     ensures grows { Grows into.old.items into.new.items }
+    ensures spare_grows { Grows spare.old.items spare.new.items }
 {
     let start = into.len();
     for i in 0..pairs.len() {
         if kept[i] {
-            append(into, ends, ids, dict, &pairs[i].1, widths)?;
+            append(into, spare, ends, dict, &pairs[i].1, widths)?;
             ends.push((into.len() - start) as u32)?;
         }
     }
     Ok(())
 }
 
-// Makes `ids` the ids of the members that are kept.
-fn set_chosen_ids(
-    ids: &mut Vec<u32>,
+// Appends the ids of the members that are kept.
+fn append_chosen_ids(
+    into: &mut Vec<u32>,
     dict: &Dictionary,
     pairs: &[(Text, Tree)],
     kept: &[bool],
 ) -> Result<(), NoMemory>
     requires kept { length kept.now ≡ length pairs.now }
     requires names { FieldsHaveNames dict.now (fields_of (map seen pairs.now)) }
-    ensures { OnOk result (ids.new.items ≡ ids_of dict.now (chosen kept.now (fields_of (map seen pairs.now)))) }
+    ensures { OnOk result (into.new.items ≡ into.old.items ++ ids_of dict.now (chosen kept.now (fields_of (map seen pairs.now)))) }
 {
-    ids.clear();
     for i in 0..pairs.len() {
         if kept[i] {
-            ids.push(dict.id(pairs[i].0.as_str()).unwrap())?;
+            into.push(dict.id(pairs[i].0.as_str()).unwrap())?;
         }
     }
     Ok(())

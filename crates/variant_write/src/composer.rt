@@ -62,8 +62,9 @@ impl<const OW: usize, const IW: usize> Composer<OW, IW> {
         done
     }
 
-    #[tactic(auto, using(crate::proofs::Packing::values_last, vs_bytes::proofs::Growing::grows_more))]
-    fn append_object(
+    /// Appends an object. After an `Err` the bytes have grown.
+    #[tactic(auto, using(crate::proofs::Fits::zero_fits), unfolding(crate::specs::Layout::packed))]
+    pub(crate) fn append_object(
         into: &mut Vec<u8>,
         ids: &[u32],
         ends: &[u32],
@@ -79,13 +80,22 @@ impl<const OW: usize, const IW: usize> Composer<OW, IW> {
         ensures ok { OnOk result (into.new.items ≡ into.old.items ++ packed true OW IW ids.now ends.now values.now) }
         ensures grows { Grows into.old.items into.new.items }
     {
-        Self::append_object_front(into, ids, ends)?;
+        into.push(Self::object_head(ends.len()))?;
+        append_count(into, ends.len())?;
+        append_numbers::<IW>(into, ids)?;
+        Le::<OW>::write(into, 0)?;
+        append_numbers::<OW>(into, ends)?;
         into.extend_from_slice(values)?;
         Ok(())
     }
 
-    #[tactic(auto, using(crate::proofs::Packing::values_last, vs_bytes::proofs::Growing::grows_more))]
-    fn append_array(into: &mut Vec<u8>, ends: &[u32], values: &[u8]) -> Result<(), NoMemory>
+    /// Appends an array. After an `Err` the bytes have grown.
+    #[tactic(auto, using(crate::proofs::Fits::zero_fits), unfolding(crate::specs::Layout::packed))]
+    pub(crate) fn append_array(
+        into: &mut Vec<u8>,
+        ends: &[u32],
+        values: &[u8],
+    ) -> Result<(), NoMemory>
         requires offset_least { 1 ≤ OW }
         requires offset_most { OW ≤ max_width }
         requires few { length ends.now < 2 ^ 32 }
@@ -93,50 +103,11 @@ impl<const OW: usize, const IW: usize> Composer<OW, IW> {
         ensures ok { OnOk result (into.new.items ≡ into.old.items ++ packed false OW 0 [] ends.now values.now) }
         ensures grows { Grows into.old.items into.new.items }
     {
-        Self::append_array_front(into, ends)?;
-        into.extend_from_slice(values)?;
-        Ok(())
-    }
-
-    /// Appends what stands before an object's values.
-    #[tactic(auto, using(crate::proofs::Packing::zero_fits), unfolding(crate::specs::Layout::packed))]
-    pub(crate) fn append_object_front(
-        into: &mut Vec<u8>,
-        ids: &[u32],
-        ends: &[u32],
-    ) -> Result<(), NoMemory>
-        requires offset_least { 1 ≤ OW }
-        requires offset_most { OW ≤ max_width }
-        requires id_least { 1 ≤ IW }
-        requires id_most { IW ≤ max_width }
-        requires few { length ends.now < 2 ^ 32 }
-        requires ids { All (λ id. id < 256 ^ IW) ids.now }
-        requires ends { All (λ end. end < 256 ^ OW) ends.now }
-        ensures ok { OnOk result (into.new.items ≡ into.old.items ++ packed true OW IW ids.now ends.now []) }
-        ensures grows { Grows into.old.items into.new.items }
-    {
-        into.push(Self::object_head(ends.len()))?;
-        append_count(into, ends.len())?;
-        append_numbers::<IW>(into, ids)?;
-        Le::<OW>::write(into, 0)?;
-        append_numbers::<OW>(into, ends)?;
-        Ok(())
-    }
-
-    /// Appends what stands before an array's items.
-    #[tactic(auto, using(crate::proofs::Packing::zero_fits), unfolding(crate::specs::Layout::packed))]
-    pub(crate) fn append_array_front(into: &mut Vec<u8>, ends: &[u32]) -> Result<(), NoMemory>
-        requires offset_least { 1 ≤ OW }
-        requires offset_most { OW ≤ max_width }
-        requires few { length ends.now < 2 ^ 32 }
-        requires ends { All (λ end. end < 256 ^ OW) ends.now }
-        ensures ok { OnOk result (into.new.items ≡ into.old.items ++ packed false OW 0 [] ends.now []) }
-        ensures grows { Grows into.old.items into.new.items }
-    {
         into.push(Self::array_head(ends.len()))?;
         append_count(into, ends.len())?;
         Le::<OW>::write(into, 0)?;
         append_numbers::<OW>(into, ends)?;
+        into.extend_from_slice(values)?;
         Ok(())
     }
 

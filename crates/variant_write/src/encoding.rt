@@ -10,13 +10,13 @@ ghost use Rattle.variant_meta.specs.Written.{ends_from};
 ghost use Rattle.variant_write.specs.Coded.{coded, elements_coded, values_coded};
 ghost use Rattle.variant_write.specs.Conditions.{IsWidths, HasNames, ElementsHaveNames, FieldsHaveNames, max_text_len};
 
-use crate::field_ids::set_ids;
+use crate::composing::{compose_array, compose_object};
+use crate::field_ids::append_ids;
 use crate::primitives::{append_bool, append_decimal_number, append_null, append_text};
-use crate::turning::{turn_array, turn_object};
 use crate::widths::Widths;
 use json_tree::Tree;
 use variant_meta::Dictionary;
-use vs_bytes::{NoMemory, Text};
+use vs_bytes::{NoMemory, Text, rest};
 
 /// Appends the bytes of a value. After an `Err` the bytes are as before.
 pub fn encode(
@@ -32,9 +32,9 @@ pub fn encode(
     ensures err { OnErr result (into.new.items ≡ into.old.items) }
 {
     let before = into.len();
+    let mut spare = Vec::new(*into.allocator());
     let mut ends = Vec::new(*into.allocator());
-    let mut ids = Vec::new(*into.allocator());
-    let done = append(into, &mut ends, &mut ids, dict, tree, widths);
+    let done = append(into, &mut spare, &mut ends, dict, tree, widths);
     if done.is_err() {
         into.truncate(before);
     }
@@ -49,16 +49,16 @@ pub(crate) fn since(ends: &[u32], first: usize) -> &[u32]
     ends.split_at(first).1
 }
 
-/// Appends the bytes of a value.
+/// Appends the bytes of a value. `ends` is as before then, and so is `spare`.
 ///
-/// `ends` has the end of each item of the arrays and objects that are being written, and `ids` is room for ids. After
-/// an `Err` the bytes have grown.
+/// The items of an array or object are written to `spare`, and where they end to `ends`, after what is there of those
+/// around it. The two buffers change places at each level. After an `Err` they have grown.
 #[cycle(append)]
 #[tactic(auto, unfolding(crate::specs::Coded::coded))]
 pub(crate) fn append(
     into: &mut Vec<u8>,
+    spare: &mut Vec<u8>,
     ends: &mut Vec<u32>,
-    ids: &mut Vec<u32>,
     dict: &Dictionary,
     tree: &Tree,
     widths: Widths,
@@ -67,24 +67,26 @@ pub(crate) fn append(
     requires small { length (text_of (view tree.now)) ≤ max_text_len }
     requires widths { IsWidths widths }
     ensures ok { OnOk result (into.new.items ≡ into.old.items ++ coded dict.now (view tree.now) widths) }
+    ensures spare { OnOk result (spare.new.items ≡ spare.old.items) }
     ensures ends { OnOk result (ends.new.items ≡ ends.old.items) }
     ensures grows { Grows into.old.items into.new.items }
+    ensures spare_grows { Grows spare.old.items spare.new.items }
 {
     match tree {
         Tree::Null => append_null(into),
         Tree::Bool(truth) => append_bool(into, *truth),
         Tree::Num(number) => append_decimal_number(into, *number),
         Tree::Text(text) => append_text(into, text.as_bytes()),
-        Tree::Array(items) => append_array(into, ends, ids, dict, items.as_slice(), widths),
-        Tree::Object(members) => append_object(into, ends, ids, dict, members.as_slice(), widths),
+        Tree::Array(items) => append_array(into, spare, ends, dict, items.as_slice(), widths),
+        Tree::Object(members) => append_object(into, spare, ends, dict, members.as_slice(), widths),
     }
 }
 
 #[cycle(append)]
 fn append_array(
     into: &mut Vec<u8>,
+    spare: &mut Vec<u8>,
     ends: &mut Vec<u32>,
-    ids: &mut Vec<u32>,
     dict: &Dictionary,
     trees: &[Tree],
     widths: Widths,
@@ -93,13 +95,17 @@ fn append_array(
     requires small { length (more_parts (parts_of (map view trees.now))) ≤ max_text_len }
     requires widths { IsWidths widths }
     ensures ok { OnOk result (into.new.items ≡ into.old.items ++ coded dict.now (array (parts_of (map view trees.now))) widths) }
+    ensures spare { OnOk result (spare.new.items ≡ spare.old.items) }
     ensures ends { OnOk result (ends.new.items ≡ ends.old.items) }
     ensures grows { Grows into.old.items into.new.items }
+    ensures spare_grows { Grows spare.old.items spare.new.items }
 {
-    let start = into.len();
+    let start = spare.len();
     let first = ends.len();
-    append_elements(into, ends, ids, dict, trees, widths)?;
-    turn_array(into, start, since(ends.as_slice(), first), widths)?;
+    append_elements(spare, into, ends, dict, trees, widths)?;
+    let items = rest(spare.as_slice(), start);
+    compose_array(into, since(ends.as_slice(), first), items, widths)?;
+    spare.truncate(start);
     ends.truncate(first);
     Ok(())
 }
@@ -107,8 +113,8 @@ fn append_array(
 #[cycle(append)]
 fn append_elements(
     into: &mut Vec<u8>,
+    spare: &mut Vec<u8>,
     ends: &mut Vec<u32>,
-    ids: &mut Vec<u32>,
     dict: &Dictionary,
     trees: &[Tree],
     widths: Widths,
@@ -117,12 +123,14 @@ fn append_elements(
     requires small { length (more_parts (parts_of (map view trees.now))) ≤ max_text_len }
     requires widths { IsWidths widths }
     ensures ok { OnOk result (into.new.items ≡ into.old.items ++ concat (elements_coded dict.now (parts_of (map view trees.now)) widths)) }
+    ensures spare { OnOk result (spare.new.items ≡ spare.old.items) }
     ensures ends { OnOk result (ends.new.items ≡ ends.old.items ++ ends_from 0 (elements_coded dict.now (parts_of (map view trees.now)) widths)) }
     ensures grows { Grows into.old.items into.new.items }
+    ensures spare_grows { Grows spare.old.items spare.new.items }
 {
     let start = into.len();
     for tree in trees {
-        append(into, ends, ids, dict, tree, widths)?;
+        append(into, spare, ends, dict, tree, widths)?;
         ends.push((into.len() - start) as u32)?;
     }
     Ok(())
@@ -131,8 +139,8 @@ fn append_elements(
 #[cycle(append)]
 fn append_object(
     into: &mut Vec<u8>,
+    spare: &mut Vec<u8>,
     ends: &mut Vec<u32>,
-    ids: &mut Vec<u32>,
     dict: &Dictionary,
     pairs: &[(Text, Tree)],
     widths: Widths,
@@ -141,20 +149,20 @@ fn append_object(
     requires small { length (more_fields (fields_of (map seen pairs.now))) ≤ max_text_len }
     requires widths { IsWidths widths }
     ensures ok { OnOk result (into.new.items ≡ into.old.items ++ coded dict.now (object (fields_of (map seen pairs.now))) widths) }
+    ensures spare { OnOk result (spare.new.items ≡ spare.old.items) }
     ensures ends { OnOk result (ends.new.items ≡ ends.old.items) }
     ensures grows { Grows into.old.items into.new.items }
+    ensures spare_grows { Grows spare.old.items spare.new.items }
 {
-    let start = into.len();
+    let start = spare.len();
     let first = ends.len();
-    append_values(into, ends, ids, dict, pairs, widths)?;
-    set_ids(ids, dict, pairs)?;
-    turn_object(
-        into,
-        start,
-        ids.as_slice(),
-        since(ends.as_slice(), first),
-        widths,
-    )?;
+    append_values(spare, into, ends, dict, pairs, widths)?;
+    let middle = ends.len();
+    append_ids(ends, dict, pairs)?;
+    let (open, ids) = ends.as_slice().split_at(middle);
+    let values = rest(spare.as_slice(), start);
+    compose_object(into, ids, since(open, first), values, widths)?;
+    spare.truncate(start);
     ends.truncate(first);
     Ok(())
 }
@@ -162,8 +170,8 @@ fn append_object(
 #[cycle(append)]
 fn append_values(
     into: &mut Vec<u8>,
+    spare: &mut Vec<u8>,
     ends: &mut Vec<u32>,
-    ids: &mut Vec<u32>,
     dict: &Dictionary,
     pairs: &[(Text, Tree)],
     widths: Widths,
@@ -172,12 +180,14 @@ fn append_values(
     requires small { length (more_fields (fields_of (map seen pairs.now))) ≤ max_text_len }
     requires widths { IsWidths widths }
     ensures ok { OnOk result (into.new.items ≡ into.old.items ++ concat (values_coded dict.now (fields_of (map seen pairs.now)) widths)) }
+    ensures spare { OnOk result (spare.new.items ≡ spare.old.items) }
     ensures ends { OnOk result (ends.new.items ≡ ends.old.items ++ ends_from 0 (values_coded dict.now (fields_of (map seen pairs.now)) widths)) }
     ensures grows { Grows into.old.items into.new.items }
+    ensures spare_grows { Grows spare.old.items spare.new.items }
 {
     let start = into.len();
     for pair in pairs {
-        append(into, ends, ids, dict, &pair.1, widths)?;
+        append(into, spare, ends, dict, &pair.1, widths)?;
         ends.push((into.len() - start) as u32)?;
     }
     Ok(())

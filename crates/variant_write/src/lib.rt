@@ -5,7 +5,7 @@
 //! | `widths` | `Widths`: the least widths of numbers |
 //! | `primitives` | null, booleans, numbers and texts, written |
 //! | `composer` | `Composer`: objects and arrays of values that are there already, written |
-//! | `turning` | an object or array round items that stand there already |
+//! | `composing` | the same for widths that only the run knows |
 //! | `collecting` | `dictionary_of`: the names of all objects in a value |
 //! | `field_ids` | the ids of an object's fields |
 //! | `encoding` | `encode`: the bytes of a value |
@@ -16,11 +16,11 @@
 mod choosing;
 mod collecting;
 mod composer;
+mod composing;
 mod encoding;
 mod field_ids;
 mod laws;
 mod primitives;
-mod turning;
 mod widths;
 
 pub use choosing::encode_members;

@@ -1,4 +1,4 @@
-use Rattle.std.proofs.Common.{◌≡◌, ◌+◌, ◌-◌, ◌≤◌, ap, sym, subst, length, map, get_or, arith}
+use Rattle.std.proofs.Common.{◌≡◌, ◌∙◌, ◌+◌, ◌-◌, ◌≤◌, ap, sym, subst, length, map, get_or, arith}
 use Rattle.json_tree.specs.Json.{Fields, fields_of}
 use Rattle.json_tree.specs.Text.{more_fields}
 use Rattle.json_tree.specs.View.{view, seen}
@@ -50,17 +50,19 @@ loop-i-preserved c = elim c.if-kept-i.branch [
       let start : c.len-start.result ≡ length c.args.into.now.items = grind arith in
       let now : w.len.result ≡ length w.append.new.into.items = grind arith in
       let place : w.len.result - c.len-start.result ≡ length w.append.new.into.items - length c.args.into.now.items = omega (arith, start, now) in
-      rw (w.into-is, w.ends-is) (record {
+      rw (w.into-is, w.spare-is, w.ends-is) (record {
         gathers = gathers_next c.args.into.now.items c.args.ends.now.items (values_coded names all c.args.widths) c.loop-i.into.items c.loop-i.ends.items _ (values_coded names (left_at kept pairs (i + 1)) c.args.widths) (coded names (view pair.1) c.args.widths) w.append.new.into.items w.push.new.self.items c.loop-i.invariant.gathers next w.in_ok-append.ensures.ok
             (pushed w.push.new.self.items w.append.new.ends.items c.loop-i.ends.items (w.len.result - c.len-start.result) _ w.in_ok-push.ensures.items w.in_ok-append.ensures.ends place);
+        spare = w.in_ok-append.ensures.spare ∙ c.loop-i.invariant.spare;
         grows = rw w.in_ok-append.ensures.ok (grows_more c.args.into.now.items c.loop-i.into.items (coded names (view pair.1) c.args.widths) c.loop-i.invariant.grows);
       })
   | else-kept-i w ↦
       let names = c.args.dict.now in
       let all = values_coded names (chosen c.args.kept.now (fields_of (map seen c.args.pairs.now))) c.args.widths in
       let next = left_out c.args.kept.now c.args.pairs.now c.loop-i.i (omega (arith, c.loop-i-test.true, c.requires.kept)) c.loop-i-test.true w.if-kept-i.false in
-      rw (w.into-is, w.ends-is) (record {
+      rw (w.into-is, w.spare-is, w.ends-is) (record {
         gathers = subst (λ (fields : Fields). Gathers c.args.into.now.items c.args.ends.now.items all c.loop-i.into.items c.loop-i.ends.items (values_coded names fields c.args.widths)) (sym next) c.loop-i.invariant.gathers;
+        spare = c.loop-i.invariant.spare;
         grows = c.loop-i.invariant.grows;
       })
 ]

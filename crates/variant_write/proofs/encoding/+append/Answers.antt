@@ -1,4 +1,4 @@
-use Rattle.std.proofs.Common.{◌≡◌, ◌∙◌, ◌+◌, ◌-◌, ◌<◌, ◌≤◌, ◌^◌, refl, ap, sym, subst, ℕ, List, drop, length, map, rules, arith}
+use Rattle.std.proofs.Common.{◌≡◌, ◌∙◌, ◌+◌, ◌-◌, ◌<◌, ◌≤◌, ◌^◌, refl, ap, sym, subst, ℕ, List, [], take, drop, length, append-nil, map, rules, arith}
 use denote.Param.Weighed.{at_most}
 use Rattle.std.specs.List.{concat}
 use Rattle.json_tree.specs.Inside.{items_sized, members_sized}
@@ -8,7 +8,7 @@ use Rattle.json_tree.specs.View.{view, seen}
 use Rattle.json_tree.specs.declared.types.Items.TheDeep.{size-Tree}
 use Rattle.vs_bytes.proofs.Growing.{grows_more}
 use Rattle.variant_meta.specs.Written.{ends_from}
-use Rattle.variant_write.specs.Coded.{coded, elements_coded, values_coded}
+use Rattle.variant_write.specs.Coded.{coded, elements_coded, values_coded, ids_of}
 use Rattle.variant_write.specs.Conditions.{ElementsHaveNames, FieldsHaveNames, max_text_len}
 use Rattle.variant_write.specs.Layout.{composed}
 use Rattle.variant_write.proofs.Gathering.{Gathers, gathers_next, next_end, gathered_bytes, gathered_ends, stands, stands_after, ends_most}
@@ -49,38 +49,54 @@ append-append_object-requires t c =
       ),
     )
 
-pub append_array-turn_array-requires-clause-small : goal.append_array-turn_array-requires-clause-small
-append_array-turn_array-requires-clause-small t c =
+pub append_array-compose_array-requires-clause-small : goal.append_array-compose_array-requires-clause-small
+append_array-compose_array-requires-clause-small t c =
     let items = elements_coded c.args.dict.now (parts_of (map view c.args.trees.now)) c.args.widths in
-    let start : c.len-start.result ≡ length c.args.into.now.items = grind arith in
-    let last = stands c.args.into.now.items (concat items) c.append_elements.new.into.items c.len-start.result c.in_ok-append_elements.ensures.ok start in
+    let start : c.len-start.result ≡ length c.args.spare.now.items = grind arith in
+    let first : c.len-first.result ≡ length c.args.ends.now.items = grind arith in
+    let last = c.rest-items.ensures ∙ ap (drop c.len-start.result) c.as_slice.ensures.value ∙ stands c.args.spare.now.items (concat items) c.append_elements.new.into.items c.len-start.result c.in_ok-append_elements.ensures.ok start in
     subst (λ (xs : List ℕ). length xs < 2 ^ 32) (sym last) (elements_total c.args.dict.now (parts_of (map view c.args.trees.now)) c.args.widths c.requires.widths c.requires.small)
 
-pub append_array-turn_array-requires-clause-few : goal.append_array-turn_array-requires-clause-few
-append_array-turn_array-requires-clause-few t c =
+pub append_array-compose_array-requires-clause-few : goal.append_array-compose_array-requires-clause-few
+append_array-compose_array-requires-clause-few t c =
     let items = elements_coded c.args.dict.now (parts_of (map view c.args.trees.now)) c.args.widths in
+    let start : c.len-start.result ≡ length c.args.spare.now.items = grind arith in
     let first : c.len-first.result ≡ length c.args.ends.now.items = grind arith in
-    let ends = c.since.ensures ∙ ap (drop c.len-first.result) c.as_slice.ensures.value ∙ stands c.args.ends.now.items (ends_from 0 items) c.append_elements.new.ends.items c.len-first.result c.in_ok-append_elements.ensures.ends first in
+    let ends = c.since.ensures ∙ ap (drop c.len-first.result) (c.as_slice-2.ensures.value) ∙ stands c.args.ends.now.items (ends_from 0 items) c.append_elements.new.ends.items c.len-first.result c.in_ok-append_elements.ensures.ends first in
     omega (arith, ap length ends, ends_len 0 items, elements_few c.args.dict.now (parts_of (map view c.args.trees.now)) c.args.widths c.requires.small)
 
-pub append_array-turn_array-requires-clause-ends : goal.append_array-turn_array-requires-clause-ends
-append_array-turn_array-requires-clause-ends t c =
+pub append_array-compose_array-requires-clause-ends : goal.append_array-compose_array-requires-clause-ends
+append_array-compose_array-requires-clause-ends t c =
     let items = elements_coded c.args.dict.now (parts_of (map view c.args.trees.now)) c.args.widths in
-    let start : c.len-start.result ≡ length c.args.into.now.items = grind arith in
+    let start : c.len-start.result ≡ length c.args.spare.now.items = grind arith in
     let first : c.len-first.result ≡ length c.args.ends.now.items = grind arith in
-    let ends = c.since.ensures ∙ ap (drop c.len-first.result) c.as_slice.ensures.value ∙ stands c.args.ends.now.items (ends_from 0 items) c.append_elements.new.ends.items c.len-first.result c.in_ok-append_elements.ensures.ends first in
-    let last = stands c.args.into.now.items (concat items) c.append_elements.new.into.items c.len-start.result c.in_ok-append_elements.ensures.ok start in
+    let last = c.rest-items.ensures ∙ ap (drop c.len-start.result) c.as_slice.ensures.value ∙ stands c.args.spare.now.items (concat items) c.append_elements.new.into.items c.len-start.result c.in_ok-append_elements.ensures.ok start in
+    let ends = c.since.ensures ∙ ap (drop c.len-first.result) (c.as_slice-2.ensures.value) ∙ stands c.args.ends.now.items (ends_from 0 items) c.append_elements.new.ends.items c.len-first.result c.in_ok-append_elements.ensures.ends first in
     rw (ends, last) (ends_most items)
 
 pub append_array-returns-clause-ok : goal.append_array-returns-clause-ok
 unfolding coded composed
 append_array-returns-clause-ok t c =
     let items = elements_coded c.args.dict.now (parts_of (map view c.args.trees.now)) c.args.widths in
-    let start : c.len-start.result ≡ length c.args.into.now.items = grind arith in
+    let start : c.len-start.result ≡ length c.args.spare.now.items = grind arith in
     let first : c.len-first.result ≡ length c.args.ends.now.items = grind arith in
-    let ends = c.since.ensures ∙ ap (drop c.len-first.result) c.as_slice.ensures.value ∙ stands c.args.ends.now.items (ends_from 0 items) c.append_elements.new.ends.items c.len-first.result c.in_ok-append_elements.ensures.ends first in
-    c.in_ok-turn_array.ensures.ok
-    ∙ rw (ends, stands c.args.into.now.items (concat items) c.append_elements.new.into.items c.len-start.result c.in_ok-append_elements.ensures.ok start, stands_after c.args.into.now.items (concat items) c.append_elements.new.into.items c.len-start.result c.in_ok-append_elements.ensures.ok start) refl
+    let last = c.rest-items.ensures ∙ ap (drop c.len-start.result) c.as_slice.ensures.value ∙ stands c.args.spare.now.items (concat items) c.append_elements.new.into.items c.len-start.result c.in_ok-append_elements.ensures.ok start in
+    let ends = c.since.ensures ∙ ap (drop c.len-first.result) (c.as_slice-2.ensures.value) ∙ stands c.args.ends.now.items (ends_from 0 items) c.append_elements.new.ends.items c.len-first.result c.in_ok-append_elements.ensures.ends first in
+    c.in_ok-compose_array.ensures.ok ∙ rw (c.in_ok-append_elements.ensures.spare, ends, last) refl
+
+pub append_array-returns-clause-spare : goal.append_array-returns-clause-spare
+append_array-returns-clause-spare t c =
+    let items = elements_coded c.args.dict.now (parts_of (map view c.args.trees.now)) c.args.widths in
+    let start : c.len-start.result ≡ length c.args.spare.now.items = grind arith in
+    let first : c.len-first.result ≡ length c.args.ends.now.items = grind arith in
+    c.truncate.ensures.items ∙ stands_after c.args.spare.now.items (concat items) c.append_elements.new.into.items c.len-start.result c.in_ok-append_elements.ensures.ok start
+
+pub append_array-returns-clause-spare_grows : goal.append_array-returns-clause-spare_grows
+append_array-returns-clause-spare_grows t c =
+    let items = elements_coded c.args.dict.now (parts_of (map view c.args.trees.now)) c.args.widths in
+    let start : c.len-start.result ≡ length c.args.spare.now.items = grind arith in
+    let first : c.len-first.result ≡ length c.args.ends.now.items = grind arith in
+    ([], c.truncate.ensures.items ∙ stands_after c.args.spare.now.items (concat items) c.append_elements.new.into.items c.len-start.result c.in_ok-append_elements.ensures.ok start ∙ sym (append-nil c.args.spare.now.items))
 
 pub append_elements-overflow_cast-len : goal.append_elements-overflow_cast-len
 unfolding coded elements_coded values_coded
@@ -111,6 +127,7 @@ append_elements-loop-tree-preserved t c =
       gathers = gathers_next c.args.into.now.items c.args.ends.now.items (elements_coded names (parts_of (map view trees)) c.args.widths) c.loop-tree.into.items c.loop-tree.ends.items _ (elements_coded names others c.args.widths) (coded names (view c.tree-item.result) c.args.widths) c.append.new.into.items c.push.new.self.items c.loop-tree.invariant.gathers (ap (λ (ps : Parts). elements_coded names ps c.args.widths) next) c.in_ok-append.ensures.ok
           (c.in_ok-push.ensures.items ∙ rw (c.in_ok-append.ensures.ends, place) refl);
       names = (subst (ElementsHaveNames names) next c.loop-tree.invariant.names).1;
+      spare = c.in_ok-append.ensures.spare ∙ c.loop-tree.invariant.spare;
       small = others_within (view c.tree-item.result) others max_text_len (subst (λ (ps : Parts). length (more_parts ps) ≤ max_text_len) next c.loop-tree.invariant.small);
       grows = rw c.in_ok-append.ensures.ok (grows_more c.args.into.now.items c.loop-tree.into.items (coded names (view c.tree-item.result) c.args.widths) c.loop-tree.invariant.grows);
     }
@@ -131,39 +148,58 @@ append_elements-returns-clause-ends t c =
     let items = elements_coded c.args.dict.now (parts_of (map view trees)) c.args.widths in
     gathered_ends c.args.into.now.items c.args.ends.now.items items c.loop-tree.into.items c.loop-tree.ends.items (subst (Gathers c.args.into.now.items c.args.ends.now.items items c.loop-tree.into.items c.loop-tree.ends.items) end c.loop-tree.invariant.gathers)
 
-pub append_object-turn_object-requires-clause-small : goal.append_object-turn_object-requires-clause-small
-append_object-turn_object-requires-clause-small t c =
+pub append_object-compose_object-requires-clause-small : goal.append_object-compose_object-requires-clause-small
+append_object-compose_object-requires-clause-small t c =
     let items = values_coded c.args.dict.now (fields_of (map seen c.args.pairs.now)) c.args.widths in
-    let start : c.len-start.result ≡ length c.args.into.now.items = grind arith in
-    let last = stands c.args.into.now.items (concat items) c.append_values.new.into.items c.len-start.result c.in_ok-append_values.ensures.ok start in
+    let start : c.len-start.result ≡ length c.args.spare.now.items = grind arith in
+    let first : c.len-first.result ≡ length c.args.ends.now.items = grind arith in
+    let last = c.rest-values.ensures ∙ ap (drop c.len-start.result) c.as_slice-2.ensures.value ∙ stands c.args.spare.now.items (concat items) c.append_values.new.into.items c.len-start.result c.in_ok-append_values.ensures.ok start in
     subst (λ (xs : List ℕ). length xs < 2 ^ 32) (sym last) (values_total c.args.dict.now (fields_of (map seen c.args.pairs.now)) c.args.widths c.requires.widths c.requires.small)
 
-pub append_object-turn_object-requires-clause-few : goal.append_object-turn_object-requires-clause-few
-append_object-turn_object-requires-clause-few t c =
+pub append_object-compose_object-requires-clause-few : goal.append_object-compose_object-requires-clause-few
+append_object-compose_object-requires-clause-few t c =
     let items = values_coded c.args.dict.now (fields_of (map seen c.args.pairs.now)) c.args.widths in
+    let start : c.len-start.result ≡ length c.args.spare.now.items = grind arith in
     let first : c.len-first.result ≡ length c.args.ends.now.items = grind arith in
-    let ends = c.since.ensures ∙ ap (drop c.len-first.result) c.as_slice-2.ensures.value ∙ stands c.args.ends.now.items (ends_from 0 items) c.append_values.new.ends.items c.len-first.result c.in_ok-append_values.ensures.ends first in
+    let middle : c.len-middle.result ≡ length c.append_values.new.ends.items = grind arith in
+    let ends = c.since.ensures ∙ ap (drop c.len-first.result) (c.split_at.ensures.front ∙ ap (take c.len-middle.result) c.as_slice.ensures.value ∙ stands_after c.append_values.new.ends.items (ids_of c.args.dict.now (fields_of (map seen c.args.pairs.now))) c.append_ids.new.into.items c.len-middle.result c.in_ok-append_ids.ensures middle) ∙ stands c.args.ends.now.items (ends_from 0 items) c.append_values.new.ends.items c.len-first.result c.in_ok-append_values.ensures.ends first in
     omega (arith, ap length ends, ends_len 0 items, values_few c.args.dict.now (fields_of (map seen c.args.pairs.now)) c.args.widths c.requires.small)
 
-pub append_object-turn_object-requires-clause-ends : goal.append_object-turn_object-requires-clause-ends
-append_object-turn_object-requires-clause-ends t c =
+pub append_object-compose_object-requires-clause-ends : goal.append_object-compose_object-requires-clause-ends
+append_object-compose_object-requires-clause-ends t c =
     let items = values_coded c.args.dict.now (fields_of (map seen c.args.pairs.now)) c.args.widths in
-    let start : c.len-start.result ≡ length c.args.into.now.items = grind arith in
+    let start : c.len-start.result ≡ length c.args.spare.now.items = grind arith in
     let first : c.len-first.result ≡ length c.args.ends.now.items = grind arith in
-    let ends = c.since.ensures ∙ ap (drop c.len-first.result) c.as_slice-2.ensures.value ∙ stands c.args.ends.now.items (ends_from 0 items) c.append_values.new.ends.items c.len-first.result c.in_ok-append_values.ensures.ends first in
-    let last = stands c.args.into.now.items (concat items) c.append_values.new.into.items c.len-start.result c.in_ok-append_values.ensures.ok start in
+    let middle : c.len-middle.result ≡ length c.append_values.new.ends.items = grind arith in
+    let last = c.rest-values.ensures ∙ ap (drop c.len-start.result) c.as_slice-2.ensures.value ∙ stands c.args.spare.now.items (concat items) c.append_values.new.into.items c.len-start.result c.in_ok-append_values.ensures.ok start in
+    let ends = c.since.ensures ∙ ap (drop c.len-first.result) (c.split_at.ensures.front ∙ ap (take c.len-middle.result) c.as_slice.ensures.value ∙ stands_after c.append_values.new.ends.items (ids_of c.args.dict.now (fields_of (map seen c.args.pairs.now))) c.append_ids.new.into.items c.len-middle.result c.in_ok-append_ids.ensures middle) ∙ stands c.args.ends.now.items (ends_from 0 items) c.append_values.new.ends.items c.len-first.result c.in_ok-append_values.ensures.ends first in
     rw (ends, last) (ends_most items)
 
 pub append_object-returns-clause-ok : goal.append_object-returns-clause-ok
 unfolding coded composed
 append_object-returns-clause-ok t c =
     let items = values_coded c.args.dict.now (fields_of (map seen c.args.pairs.now)) c.args.widths in
-    let start : c.len-start.result ≡ length c.args.into.now.items = grind arith in
+    let start : c.len-start.result ≡ length c.args.spare.now.items = grind arith in
     let first : c.len-first.result ≡ length c.args.ends.now.items = grind arith in
-    let ends = c.since.ensures ∙ ap (drop c.len-first.result) c.as_slice-2.ensures.value ∙ stands c.args.ends.now.items (ends_from 0 items) c.append_values.new.ends.items c.len-first.result c.in_ok-append_values.ensures.ends first in
-    let ids = c.as_slice.ensures.value ∙ c.in_ok-set_ids.ensures in
-    c.in_ok-turn_object.ensures.ok
-    ∙ rw (ends, ids, stands c.args.into.now.items (concat items) c.append_values.new.into.items c.len-start.result c.in_ok-append_values.ensures.ok start, stands_after c.args.into.now.items (concat items) c.append_values.new.into.items c.len-start.result c.in_ok-append_values.ensures.ok start) refl
+    let middle : c.len-middle.result ≡ length c.append_values.new.ends.items = grind arith in
+    let last = c.rest-values.ensures ∙ ap (drop c.len-start.result) c.as_slice-2.ensures.value ∙ stands c.args.spare.now.items (concat items) c.append_values.new.into.items c.len-start.result c.in_ok-append_values.ensures.ok start in
+    let ends = c.since.ensures ∙ ap (drop c.len-first.result) (c.split_at.ensures.front ∙ ap (take c.len-middle.result) c.as_slice.ensures.value ∙ stands_after c.append_values.new.ends.items (ids_of c.args.dict.now (fields_of (map seen c.args.pairs.now))) c.append_ids.new.into.items c.len-middle.result c.in_ok-append_ids.ensures middle) ∙ stands c.args.ends.now.items (ends_from 0 items) c.append_values.new.ends.items c.len-first.result c.in_ok-append_values.ensures.ends first in
+    let ids = c.split_at.ensures.back ∙ ap (drop c.len-middle.result) c.as_slice.ensures.value ∙ stands c.append_values.new.ends.items (ids_of c.args.dict.now (fields_of (map seen c.args.pairs.now))) c.append_ids.new.into.items c.len-middle.result c.in_ok-append_ids.ensures middle in
+    c.in_ok-compose_object.ensures.ok ∙ rw (c.in_ok-append_values.ensures.spare, ends, ids, last) refl
+
+pub append_object-returns-clause-spare : goal.append_object-returns-clause-spare
+append_object-returns-clause-spare t c =
+    let items = values_coded c.args.dict.now (fields_of (map seen c.args.pairs.now)) c.args.widths in
+    let start : c.len-start.result ≡ length c.args.spare.now.items = grind arith in
+    let first : c.len-first.result ≡ length c.args.ends.now.items = grind arith in
+    c.truncate.ensures.items ∙ stands_after c.args.spare.now.items (concat items) c.append_values.new.into.items c.len-start.result c.in_ok-append_values.ensures.ok start
+
+pub append_object-returns-clause-spare_grows : goal.append_object-returns-clause-spare_grows
+append_object-returns-clause-spare_grows t c =
+    let items = values_coded c.args.dict.now (fields_of (map seen c.args.pairs.now)) c.args.widths in
+    let start : c.len-start.result ≡ length c.args.spare.now.items = grind arith in
+    let first : c.len-first.result ≡ length c.args.ends.now.items = grind arith in
+    ([], c.truncate.ensures.items ∙ stands_after c.args.spare.now.items (concat items) c.append_values.new.into.items c.len-start.result c.in_ok-append_values.ensures.ok start ∙ sym (append-nil c.args.spare.now.items))
 
 pub append_values-append-requires : goal.append_values-append-requires
 append_values-append-requires t c =
@@ -211,6 +247,7 @@ append_values-loop-pair-preserved t c =
       gathers = gathers_next c.args.into.now.items c.args.ends.now.items (values_coded names (fields_of (map seen pairs)) c.args.widths) c.loop-pair.into.items c.loop-pair.ends.items _ (values_coded names others c.args.widths) (coded names (view c.pair-item.result.1) c.args.widths) c.append.new.into.items c.push.new.self.items c.loop-pair.invariant.gathers (ap (λ (fs : Fields). values_coded names fs c.args.widths) next) c.in_ok-append.ensures.ok
           (c.in_ok-push.ensures.items ∙ rw (c.in_ok-append.ensures.ends, place) refl);
       names = (subst (FieldsHaveNames names) next c.loop-pair.invariant.names).2;
+      spare = c.in_ok-append.ensures.spare ∙ c.loop-pair.invariant.spare;
       small = fields_left_within c.pair-item.result.0 (view c.pair-item.result.1) others max_text_len (subst (λ (fs : Fields). length (more_fields fs) ≤ max_text_len) next c.loop-pair.invariant.small);
       grows = rw c.in_ok-append.ensures.ok (grows_more c.args.into.now.items c.loop-pair.into.items (coded names (view c.pair-item.result.1) c.args.widths) c.loop-pair.invariant.grows);
     }

@@ -1,6 +1,6 @@
 use Rattle.std.proofs.Common.{◌≡◌, max, drop}
 use Rattle.variant_write.specs.Coded.{greatest}
-use Rattle.variant_write.proofs.turning.greatest.Given as goal
+use Rattle.variant_write.proofs.composing.greatest.Given as goal
 
 -- the greatest so far, and of those that are left
 abbrev pub invariant-loop-id : goal.invariant-loop-id

@@ -3,8 +3,8 @@ use Rattle.variant_meta.specs.Names.{place_of}
 use Rattle.variant_write.specs.Coded.{ids_of}
 use Rattle.variant_write.specs.Conditions.{HasName}
 use Rattle.variant_write.proofs.ChosenSteps.{member_named, ids_kept, left_out, pushed}
-use Rattle.variant_write.proofs.choosing.set_chosen_ids.Goals as goal
-use Rattle.variant_write.proofs.choosing.set_chosen_ids.Goals.{then-kept-i+in_ok-push, else-kept-i}
+use Rattle.variant_write.proofs.choosing.append_chosen_ids.Goals as goal
+use Rattle.variant_write.proofs.choosing.append_chosen_ids.Goals.{then-kept-i+in_ok-push, else-kept-i}
 
 some_where : (P : Type 0) (v : ℕ) (o : Option ℕ) → P → SomeIff o P v → IsSome o
 some_where P v None p h = absurd (h p)
@@ -20,9 +20,9 @@ loop-i-preserved c = elim c.if-kept-i.branch [
       let names = c.args.dict.now in
       let pair = get_or c.args.pairs.now c.loop-i.i w.index-pairs-i.result in
       let id : w.unwrap.result ≡ place_of names w.as_str.result.now = (subst (λ o. SomeIff o (HasName names w.as_str.result.now) (place_of names w.as_str.result.now)) w.unwrap.ensures w.id.ensures).1 in
-      let pushed : c.if-kept-i.ids.items ≡ c.loop-i.ids.items ++ place_of names pair.0 ∷ [] =
-      rw w.ids-is (pushed w.push.new.self.items c.loop-i.ids.items c.loop-i.ids.items w.unwrap.result (place_of names pair.0) w.in_ok-push.ensures.items refl (id ∙ ap (place_of names) w.as_str.ensures)) in
-      ids_kept names c.args.kept.now c.args.pairs.now c.loop-i.i w.index-pairs-i.result (omega (arith, c.loop-i-test.true, c.requires.kept)) c.loop-i-test.true c.loop-i.ids.items c.if-kept-i.ids.items _ w.if-kept-i.true c.loop-i.invariant pushed
+      let pushed : c.if-kept-i.into.items ≡ c.loop-i.into.items ++ place_of names pair.0 ∷ [] =
+      rw w.into-is (pushed w.push.new.self.items c.loop-i.into.items c.loop-i.into.items w.unwrap.result (place_of names pair.0) w.in_ok-push.ensures.items refl (id ∙ ap (place_of names) w.as_str.ensures)) in
+      ids_kept names c.args.kept.now c.args.pairs.now c.loop-i.i w.index-pairs-i.result (omega (arith, c.loop-i-test.true, c.requires.kept)) c.loop-i-test.true c.loop-i.into.items c.if-kept-i.into.items _ w.if-kept-i.true c.loop-i.invariant pushed
   | else-kept-i w ↦
-      rw w.ids-is (ap (λ fields. c.loop-i.ids.items ++ ids_of c.args.dict.now fields) (left_out c.args.kept.now c.args.pairs.now c.loop-i.i (omega (arith, c.loop-i-test.true, c.requires.kept)) c.loop-i-test.true w.if-kept-i.false) ∙ c.loop-i.invariant)
+      rw w.into-is (ap (λ fields. c.loop-i.into.items ++ ids_of c.args.dict.now fields) (left_out c.args.kept.now c.args.pairs.now c.loop-i.i (omega (arith, c.loop-i-test.true, c.requires.kept)) c.loop-i-test.true w.if-kept-i.false) ∙ c.loop-i.invariant)
 ]

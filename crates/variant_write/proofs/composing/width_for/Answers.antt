@@ -1,6 +1,6 @@
 use Rattle.std.proofs.Common.{◌≤◌, arith}
 use Rattle.variant_meta.proofs.Sizes.{wider}
-use Rattle.variant_write.proofs.turning.width_for.Goals as goal
+use Rattle.variant_write.proofs.composing.width_for.Goals as goal
 
 pub returns-clause-holds : goal.returns-clause-holds
 returns-clause-holds c =

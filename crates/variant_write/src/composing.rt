@@ -1,7 +1,6 @@
-//! An object or array round items that stand at the end of the bytes: what belongs before them is appended, and
-//! then the two change places. So no second buffer holds the items.
+//! Objects and arrays whose widths only the run knows.
 
-ghost use Rattle.std.specs.Prelude.{◌≡◌, ◌-◌, ◌<◌, ◌≤◌, ◌^◌, ◌++◌, [], max, true, false, length, take, drop, All, OnOk, OnErr};
+ghost use Rattle.std.specs.Prelude.{◌≡◌, ◌<◌, ◌≤◌, ◌^◌, ◌++◌, [], max, true, false, length, All, OnOk};
 ghost use Rattle.vs_bytes.specs.Outcome.{Grows};
 ghost use Rattle.vs_bytes.specs.Numbers.{width_of};
 ghost use Rattle.variant_write.specs.Coded.{greatest, id_size};
@@ -44,23 +43,29 @@ macro_rules! composer {
     };
 }
 
-fn append_array_front(into: &mut Vec<u8>, width: usize, ends: &[u32]) -> Result<(), NoMemory>
+fn append_array(
+    into: &mut Vec<u8>,
+    width: usize,
+    ends: &[u32],
+    items: &[u8],
+) -> Result<(), NoMemory>
     requires least { 1 ≤ width }
     requires most { width ≤ max_width }
     requires few { length ends.now < 2 ^ 32 }
     requires ends { All (λ end. end < 256 ^ width) ends.now }
-    ensures ok { OnOk result (into.new.items ≡ into.old.items ++ packed false width 0 [] ends.now []) }
+    ensures ok { OnOk result (into.new.items ≡ into.old.items ++ packed false width 0 [] ends.now items.now) }
     ensures grows { Grows into.old.items into.new.items }
 {
-    composer!([width] ::append_array_front(into, ends))
+    composer!([width] ::append_array(into, ends, items))
 }
 
-fn append_object_front(
+fn append_object(
     into: &mut Vec<u8>,
     width: usize,
     id_width: usize,
     ids: &[u32],
     ends: &[u32],
+    values: &[u8],
 ) -> Result<(), NoMemory>
     requires least { 1 ≤ width }
     requires most { width ≤ max_width }
@@ -69,20 +74,10 @@ fn append_object_front(
     requires few { length ends.now < 2 ^ 32 }
     requires ids { All (λ id. id < 256 ^ id_width) ids.now }
     requires ends { All (λ end. end < 256 ^ width) ends.now }
-    ensures ok { OnOk result (into.new.items ≡ into.old.items ++ packed true width id_width ids.now ends.now []) }
+    ensures ok { OnOk result (into.new.items ≡ into.old.items ++ packed true width id_width ids.now ends.now values.now) }
     ensures grows { Grows into.old.items into.new.items }
 {
-    composer!([width, id_width] ::append_object_front(into, ids, ends))
-}
-
-// What stands from `end` on and what stands from `start` on before it change places.
-fn turn(into: &mut Vec<u8>, start: usize, end: usize)
-    requires start { start ≤ end }
-    requires end { end ≤ length into.old.items }
-    ensures { into.new.items ≡ take start into.old.items ++ (drop end into.old.items ++ take (end - start) (drop start into.old.items)) }
-{
-    let size = into.len() - end;
-    into[start..].rotate_right(size);
+    composer!([width, id_width] ::append_object(into, ids, ends, values))
 }
 
 // The bytes of a number, at least `least`.
@@ -107,50 +102,41 @@ fn greatest(ids: &[u32]) -> u32
     most
 }
 
-/// Makes what stands from `start` on an array, whose items end at `ends` after `start`. After an `Err` the bytes
-/// have grown.
-pub(crate) fn turn_array(
+/// Appends the array of items that end at `ends`. After an `Err` the bytes have grown.
+pub(crate) fn compose_array(
     into: &mut Vec<u8>,
-    start: usize,
     ends: &[u32],
+    items: &[u8],
     widths: Widths,
 ) -> Result<(), NoMemory>
-    requires start { start ≤ length into.old.items }
-    requires small { length (drop start into.old.items) < 2 ^ 32 }
+    requires small { length items.now < 2 ^ 32 }
     requires few { length ends.now < 2 ^ 32 }
-    requires ends { All (λ end. end ≤ length (drop start into.old.items)) ends.now }
+    requires ends { All (λ end. end ≤ length items.now) ends.now }
     requires widths { IsWidths widths }
-    ensures ok { OnOk result (into.new.items ≡ take start into.old.items ++ packed false (max widths.offset (width_of (length (drop start into.old.items)))) 0 [] ends.now (drop start into.old.items)) }
-    ensures err { OnErr result (Grows into.old.items into.new.items) }
+    ensures ok { OnOk result (into.new.items ≡ into.old.items ++ packed false (max widths.offset (width_of (length items.now))) 0 [] ends.now items.now) }
+    ensures grows { Grows into.old.items into.new.items }
 {
-    let end = into.len();
-    let width = width_for((end - start) as u32, widths.offset);
-    append_array_front(into, width, ends)?;
-    turn(into, start, end);
-    Ok(())
+    let width = width_for(items.len() as u32, widths.offset);
+    append_array(into, width, ends, items)
 }
 
-/// Makes what stands from `start` on an object, whose fields have the ids `ids` and values that end at `ends` after
-/// `start`. After an `Err` the bytes have grown.
-pub(crate) fn turn_object(
+/// Appends the object of fields whose ids are `ids`, and whose values end at `ends`. After an `Err` the bytes have
+/// grown.
+pub(crate) fn compose_object(
     into: &mut Vec<u8>,
-    start: usize,
     ids: &[u32],
     ends: &[u32],
+    values: &[u8],
     widths: Widths,
 ) -> Result<(), NoMemory>
-    requires start { start ≤ length into.old.items }
-    requires small { length (drop start into.old.items) < 2 ^ 32 }
+    requires small { length values.now < 2 ^ 32 }
     requires few { length ends.now < 2 ^ 32 }
-    requires ends { All (λ end. end ≤ length (drop start into.old.items)) ends.now }
+    requires ends { All (λ end. end ≤ length values.now) ends.now }
     requires widths { IsWidths widths }
-    ensures ok { OnOk result (into.new.items ≡ take start into.old.items ++ packed true (max widths.offset (width_of (length (drop start into.old.items)))) (id_size widths.id ids.now) ids.now ends.now (drop start into.old.items)) }
-    ensures err { OnErr result (Grows into.old.items into.new.items) }
+    ensures ok { OnOk result (into.new.items ≡ into.old.items ++ packed true (max widths.offset (width_of (length values.now))) (id_size widths.id ids.now) ids.now ends.now values.now) }
+    ensures grows { Grows into.old.items into.new.items }
 {
-    let end = into.len();
-    let width = width_for((end - start) as u32, widths.offset);
+    let width = width_for(values.len() as u32, widths.offset);
     let id_width = width_for(greatest(ids), widths.id);
-    append_object_front(into, width, id_width, ids, ends)?;
-    turn(into, start, end);
-    Ok(())
+    append_object(into, width, id_width, ids, ends, values)
 }
