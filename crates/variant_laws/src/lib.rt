@@ -1,0 +1,2 @@
+//! What holds of Variant bytes that are written and read.
+#![tactic(auto)]
