@@ -1,3 +1,7 @@
+pub mod Coded
+pub mod Composed
+pub mod FieldNames
 pub mod Layouts
 pub mod NumberLists
+pub mod Plain
 pub mod Walks
