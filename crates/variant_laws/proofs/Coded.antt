@@ -1,8 +1,9 @@
 -- Coded bytes mean their value.
-use Rattle.std.proofs.Common.{◌≡◌, ◌∙◌, refl, sym, ap, subst, ℕ, zero, suc, ◌+◌, ◌*◌, ◌^◌, ◌<◌, ◌≤◌, max, Bool, true, false, cond, List, [], ◌∷◌, ◌++◌, length, map, get_or, arith, zero-mul}
+use Rattle.std.proofs.Common.{◌≡◌, ◌∙◌, refl, sym, ap, subst, ℕ, zero, suc, ◌+◌, ◌*◌, ◌^◌, ◌<◌, ◌≤◌, max, nat_le, Bool, true, false, cond, List, [], ◌∷◌, ◌++◌, length, map, get_or, arith, zero-mul}
 use Rattle.std.specs.List.{AllByRecursion, concat}
 use Rattle.std.proofs.lemmas.List.{length-append, length-map}
 use Rattle.json_tree.specs.Json.{Json, null, boolean, number, text, array, object, Parts, no_parts, part, Fields, no_fields, field, items_of, names_of, values_of, depth_of, parts_depth, fields_depth}
+use Rattle.json_tree.specs.Order.{NamesRise}
 use Rattle.json_tree.specs.Valid.{IsValid, AreValid, HoldValid}
 use Rattle.vs_bytes.specs.Numbers.{width_of, number_bytes}
 use Rattle.variant_meta.specs.Names.{place_of}
@@ -12,9 +13,9 @@ use Rattle.variant_read.specs.Primitives.{Kind}
 use Rattle.variant_write.specs.Coded.{ids_of, greatest, id_size, coded, elements_coded, values_coded}
 use Rattle.variant_write.specs.Conditions.{IsWidths, HasNames, ElementsHaveNames, FieldsHaveNames}
 use Rattle.variant_write.specs.Layout.{composed}
-use Rattle.variant_write.specs.Primitives.{text_coded}
+use Rattle.variant_write.specs.Primitives.{decimal_coded, text_coded}
 use Rattle.variant_write.specs.declared.widths.Widths.{Widths}
-use Rattle.variant_laws.proofs.Composed.{HasParts, composed_means, greatest_fits}
+use Rattle.variant_laws.proofs.Composed.{offsets_width, items_few, composed_means, greatest_fits}
 use Rattle.variant_laws.proofs.FieldNames.{no_fault, object_is, array_is, no_id}
 use Rattle.variant_laws.proofs.Plain.{IsPlain, null_read, true_read, false_read, number_read, text_read}
 use Rattle.variant_laws.proofs.Walks.{Means, AllMean}
@@ -77,8 +78,58 @@ ids_fit least ids low high small =
 
 -- What holds items.
 
-elements_mean_array : (names : List (List ℕ)) (widths : Widths) (room : ℕ) (elements : Parts) → IsWidths widths → length (composed false widths.offset 0 [] (elements_coded names elements widths)) < 2 ^ 32 → AllMean (value_within names room) (elements_coded names elements widths) (items_of elements) → Means (value_within names (suc room)) (composed false widths.offset 0 [] (elements_coded names elements widths)) (array elements)
-elements_mean_array names widths room elements wide small mean =
+total_small : (is : Bool) (least i : ℕ) (ids : List ℕ) (items : List (List ℕ)) → 1 ≤ least → length (composed is least i ids items) < 2 ^ 32 → length (concat items) < 2 ^ 32
+unfolding composed
+total_small is least i ids items low small = (items_few is (offsets_width least items) i ids items (omega (arith, low)) small).1
+
+array_mean : (names : List (List ℕ)) (widths : Widths) (room : ℕ) (elements : Parts) → IsWidths widths → length (composed false widths.offset 0 [] (elements_coded names elements widths)) < 2 ^ 32 → AllMean (value_within names room) (elements_coded names elements widths) (items_of elements) → Means (value_within names (suc room)) (composed false widths.offset 0 [] (elements_coded names elements widths)) (array elements)
+array_mean names widths room elements wide small mean =
     let items = elements_coded names elements widths in
     composed_means names room false widths.offset 0 [] items (items_of elements) (array elements) wide.offset_least wide.offset_most refl (omega arith) tt small mean
     (λ bytes has. (λ m h. no_id names bytes m has.0, array_is names elements bytes has.0))
+
+object_mean : (names : List (List ℕ)) (widths : Widths) (room : ℕ) (members : Fields) → IsWidths widths → length names < 2 ^ 32 → FieldsHaveNames names members → NamesRise members → length (coded names (object members) widths) < 2 ^ 32 → AllMean (value_within names room) (values_coded names members widths) (values_of members) → Means (value_within names (suc room)) (coded names (object members) widths) (object members)
+unfolding coded
+object_mean names widths room members wide few have rise small mean =
+    let items = values_coded names members widths in
+    let ids = ids_of names members in
+    let many = values_len names widths members in
+    let as_many = length-map (names_of members) (place_of names) in
+    let fit = ids_fit widths.id ids wide.id_least wide.id_most (ids_small names members few have) in
+    let bytes : length ids * id_size widths.id ids ≡ length items * id_size widths.id ids = ap (λ (n : ℕ). n * id_size widths.id ids) (as_many ∙ sym many) in
+    composed_means names room true widths.offset (id_size widths.id ids) ids items (values_of members) (object members) wide.offset_least wide.offset_most (fit.one, fit.four) bytes fit.each small mean
+    (λ bytes has. (λ m h. no_fault names members bytes m has.0 have rise has.1 (omega (arith, h, many)), object_is names members bytes has.0 have has.1))
+
+-- The law.
+
+-- a part is no longer than all
+first_small : (item : List ℕ) (items : List (List ℕ)) → length (concat (item ∷ items)) < 2 ^ 32 → (length item < 2 ^ 32) × (length (concat items) < 2 ^ 32)
+first_small item items h = let parts = length-append item (concat items) in (omega (arith, parts, h), omega (arith, parts, h))
+
+module _ (names : List (List ℕ)) (widths : Widths) (wide : IsWidths widths) (few : length names < 2 ^ 32) where
+  mutual
+    unfolding coded elements_coded values_coded
+
+    pub coded_mean : (json : Json) (room : ℕ) → IsValid json → HasNames names json → depth_of json ≤ room → length (coded names json widths) < 2 ^ 32 → Means (value_within names room) (coded names json widths) json
+    coded_mean null room valid have deep small = plain_within names room (0 ∷ []) null null_read
+    coded_mean (boolean b) room valid have deep small = boolean_within names room b
+    coded_mean (number d) room valid have deep small = plain_within names room (decimal_coded d) (number d) (number_read d valid)
+    coded_mean (text s) room valid have deep small = plain_within names room (text_coded s) (text s) (text_read s valid (let most = text_most s in omega (arith, most, small)))
+    coded_mean (array elements) zero valid have deep small = absurd (omega (arith, deep))
+    coded_mean (array elements) (suc room) valid have deep small =
+        array_mean names widths room elements wide small (elements_mean elements room valid have (omega (arith, deep)) (total_small false widths.offset 0 [] (elements_coded names elements widths) wide.offset_least small))
+    coded_mean (object members) zero valid have deep small = absurd (omega (arith, deep))
+    coded_mean (object members) (suc room) valid have deep small =
+        object_mean names widths room members wide few have valid.0 small (values_mean members room valid.1 have (omega (arith, deep)) (total_small true widths.offset (id_size widths.id (ids_of names members)) (ids_of names members) (values_coded names members widths) wide.offset_least small))
+
+    elements_mean : (elements : Parts) (room : ℕ) → AreValid elements → ElementsHaveNames names elements → parts_depth elements ≤ room → length (concat (elements_coded names elements widths)) < 2 ^ 32 → AllMean (value_within names room) (elements_coded names elements widths) (items_of elements)
+    elements_mean no_parts room valid have deep small = tt
+    elements_mean (part j elements) room valid have deep small =
+        let each = first_small (coded names j widths) (elements_coded names elements widths) small in
+        (coded_mean j room valid.0 have.0 (omega (arith, deep)) each.0, elements_mean elements room valid.1 have.1 (omega (arith, deep)) each.1)
+
+    values_mean : (members : Fields) (room : ℕ) → HoldValid members → FieldsHaveNames names members → fields_depth members ≤ room → length (concat (values_coded names members widths)) < 2 ^ 32 → AllMean (value_within names room) (values_coded names members widths) (values_of members)
+    values_mean no_fields room valid have deep small = tt
+    values_mean (field name j members) room valid have deep small =
+        let each = first_small (coded names j widths) (values_coded names members widths) small in
+        (coded_mean j room valid.1 have.1 (omega (arith, deep)) each.0, values_mean members room valid.2 have.2 (omega (arith, deep)) each.1)
