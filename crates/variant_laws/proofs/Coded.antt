@@ -1,5 +1,5 @@
 -- Coded bytes mean their value.
-use Rattle.std.proofs.Common.{◌≡◌, ◌∙◌, refl, sym, ap, subst, ℕ, zero, suc, ◌+◌, ◌*◌, ◌^◌, ◌<◌, ◌≤◌, max, nat_le, Bool, true, false, cond, List, [], ◌∷◌, ◌++◌, length, map, get_or, arith, zero-mul}
+use Rattle.std.proofs.Common.{◌≡◌, ◌∙◌, refl, sym, ap, ℕ, zero, suc, ◌+◌, ◌*◌, ◌^◌, ◌<◌, ◌≤◌, max, nat_le, Bool, true, false, cond, List, [], ◌∷◌, ◌++◌, length, arith}
 use Rattle.std.specs.List.{AllByRecursion, concat}
 use Rattle.std.proofs.lemmas.List.{length-append, length-map}
 use Rattle.json_tree.specs.Json.{Json, null, boolean, number, text, array, object, Parts, no_parts, part, Fields, no_fields, field, items_of, names_of, values_of, depth_of, parts_depth, fields_depth}
@@ -8,8 +8,7 @@ use Rattle.json_tree.specs.Valid.{IsValid, AreValid, HoldValid}
 use Rattle.vs_bytes.specs.Numbers.{width_of, number_bytes}
 use Rattle.variant_meta.specs.Names.{place_of}
 use Rattle.variant_meta.proofs.Sizes.{width_holds, wider}
-use Rattle.variant_read.specs.Meaning.{value_of, value_within}
-use Rattle.variant_read.specs.Primitives.{Kind}
+use Rattle.variant_read.specs.Meaning.{value_within}
 use Rattle.variant_write.specs.Coded.{ids_of, greatest, id_size, coded, elements_coded, values_coded}
 use Rattle.variant_write.specs.Conditions.{IsWidths, HasNames, ElementsHaveNames, FieldsHaveNames}
 use Rattle.variant_write.specs.Layout.{composed}

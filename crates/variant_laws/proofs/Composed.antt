@@ -1,5 +1,5 @@
 -- Objects and arrays of items that mean their values.
-use Rattle.std.proofs.Common.{◌≡◌, ◌∙◌, refl, sym, ap, subst, ℕ, zero, suc, ◌+◌, ◌*◌, ◌^◌, ◌<◌, ◌≤◌, max, Bool, List, [], ◌∷◌, ◌++◌, length, get_or, Option, None, Ok, arith, mul-le-mul_left}
+use Rattle.std.proofs.Common.{◌≡◌, ◌∙◌, ap, ℕ, suc, ◌+◌, ◌*◌, ◌^◌, ◌<◌, ◌≤◌, max, Bool, List, [], ◌∷◌, ◌++◌, length, get_or, None, arith, mul-le-mul_left}
 use Rattle.std.specs.List.{AllByRecursion, concat}
 use Rattle.json_tree.specs.Json.{Json}
 use Rattle.vs_bytes.specs.Numbers.{width_of}

@@ -1,13 +1,11 @@
 -- The names of an object's members, found by their ids.
-use Rattle.std.proofs.Common.{◌≡◌, ◌∙◌, refl, sym, ap, subst, ℕ, zero, suc, pred, ◌+◌, ◌<◌, ◌≤◌, ◌==◌, nat_le, not, Bool, true, false, cond, List, [], ◌∷◌, length, map, get_or, Option, None, Some, arith, bytes_eq, zero-add}
+use Rattle.std.proofs.Common.{◌≡◌, ◌∙◌, refl, sym, ap, subst, ℕ, zero, suc, ◌+◌, ◌<◌, ◌==◌, nat_le, Bool, true, false, cond, List, [], ◌∷◌, length, get_or, None, arith, bytes_eq, zero-add}
 use Rattle.std.specs.Cmp.Lexicographic.{slice_cmp, same_text}
-use Rattle.std.specs.List.Sorted.{IsStrictlySortedBy}
 use Rattle.std.specs.Ordering.{nat_cmp, is_lt}
-use Rattle.std.proofs.lemmas.Bool.{lt-leb}
 use Rattle.std.proofs.lemmas.Bool.Decides.{nat_tests}
 use Rattle.std.proofs.lemmas.List.{get_or-map, length-map}
 use Rattle.std.proofs.lemmas.Map.Keys.{Less-from_sorted}
-use Rattle.json_tree.specs.Json.{Json, array, object, Parts, no_parts, part, Fields, no_fields, field, parts_of, fields_of, items_of, names_of, values_of}
+use Rattle.json_tree.specs.Json.{array, object, Parts, no_parts, part, Fields, no_fields, field, parts_of, fields_of, items_of, names_of, values_of}
 use Rattle.json_tree.specs.Order.{NamesRise}
 use Rattle.variant_meta.specs.Names.{name_at, place_of, is_before}
 use Rattle.variant_read.specs.Layout.{is_object, field_id}

@@ -1,14 +1,13 @@
 -- The parts of an object or array, as they are written.
-use Rattle.std.proofs.Common.{◌≡◌, ◌∙◌, refl, sym, ap, subst, ℕ, zero, suc, ◌+◌, ◌-◌, ◌*◌, ◌/◌, ◌%◌, ◌^◌, ◌<◌, ◌≤◌, ◌==◌, nat_lt, Bool, true, false, cond, List, [], ◌∷◌, ◌++◌, length, take, drop, get_or, arith, append_assoc, zero-mul, suc-mul}
-use Rattle.std.specs.List.{AllByRecursion, concat}
+use Rattle.std.proofs.Common.{◌≡◌, ◌∙◌, refl, sym, ap, ℕ, suc, ◌+◌, ◌*◌, ◌/◌, ◌%◌, ◌^◌, ◌<◌, ◌≤◌, ◌==◌, nat_lt, Bool, true, false, cond, List, ◌∷◌, ◌++◌, length, drop, get_or, arith, append_assoc}
+use Rattle.std.specs.List.{AllByRecursion}
 use Rattle.std.proofs.Math.Nat.{one-le-pow}
-use Rattle.std.proofs.Math.Seq.{drop-append-add, take-append_seam}
+use Rattle.std.proofs.Math.Seq.{take-append_seam}
 use Rattle.std.proofs.lemmas.Bool.Decides.{nat_tests}
 use Rattle.std.proofs.lemmas.List.{length-append}
-use Rattle.byteorder.specs.Endian.{little_number}
-use Rattle.byteorder.specs.Numbers.{little_number-reads_back, length-bytes_low_first}
+use Rattle.byteorder.specs.Numbers.{little_number-reads_back}
 use Rattle.vs_bytes.specs.Numbers.{number_bytes}
-use Rattle.variant_meta.specs.Written.{ends_from, numbers}
+use Rattle.variant_meta.specs.Written.{numbers}
 use Rattle.variant_read.specs.Layout.{basic_type, type_header, is_object, offset_size, id_size, count_size, count, id_place, field_id, offset_place, offset, fixed_size, last_offset, region, container_size}
 use Rattle.variant_read.specs.Layout as read
 use Rattle.variant_write.specs.Layout.{count_bytes, large_bit, head, packed, max_small_count}

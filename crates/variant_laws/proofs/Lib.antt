@@ -4,4 +4,5 @@ pub mod FieldNames
 pub mod Layouts
 pub mod NumberLists
 pub mod Plain
+pub mod ReadBack
 pub mod Walks

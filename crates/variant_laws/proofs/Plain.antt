@@ -1,14 +1,13 @@
 -- Values that hold no others, read back.
-use Rattle.std.proofs.Common.{◌≡◌, ◌∙◌, refl, sym, ap, subst, ℕ, zero, suc, ◌+◌, ◌-◌, ◌*◌, ◌/◌, ◌%◌, ◌^◌, ◌<◌, ◌≤◌, ◌==◌, nat_lt, nat_le, Bool, true, false, cond, List, [], ◌∷◌, ◌++◌, length, take, drop, ℤ, pos, negsuc, int_lt, unsigned_abs, Result, Ok, Err, arith, append_assoc}
+use Rattle.std.proofs.Common.{◌≡◌, ◌∙◌, refl, subst, ℕ, suc, ◌+◌, ◌*◌, ◌/◌, ◌%◌, ◌^◌, ◌<◌, ◌≤◌, ◌==◌, nat_lt, nat_le, Bool, true, false, cond, List, [], ◌∷◌, ◌++◌, length, drop, ℤ, pos, negsuc, unsigned_abs, Ok, arith, append_assoc}
 use Rattle.std.specs.Str.{is_utf8}
 use Rattle.std.proofs.Math.Seq.{take-append_seam}
 use Rattle.std.proofs.lemmas.Bool.{le-ltb}
 use Rattle.std.proofs.lemmas.Bool.Decides.{nat_tests}
 use Rattle.std.proofs.lemmas.List.{length-append}
-use Rattle.byteorder.specs.Endian.{little_number}
 use Rattle.byteorder.specs.Numbers.{little_number-reads_back}
-use Rattle.exact_num.specs.Decimal.{Decimal, IsNumber, least, signed, shortened}
-use Rattle.exact_num.specs.Unscaled.{half, reach, FitsBytes, little_integer, little_integer_bytes, unsigned_number}
+use Rattle.exact_num.specs.Decimal.{Decimal, IsNumber}
+use Rattle.exact_num.specs.Unscaled.{half, reach, FitsBytes, little_integer_bytes, unsigned_number}
 use Rattle.exact_num.proofs.Shortening.{shortened_lean}
 use Rattle.exact_num.proofs.Signs.{sign_back}
 use Rattle.exact_num.proofs.TwosComplement.{integer_back}

@@ -1,5 +1,5 @@
 -- Items that mean their values, walked.
-use Rattle.std.proofs.Common.{◌≡◌, ◌∙◌, refl, sym, ap, subst, ℕ, zero, suc, ◌+◌, ◌*◌, ◌<◌, ◌≤◌, ◌==◌, nat_lt, Bool, true, false, cond, List, [], ◌∷◌, ◌++◌, length, drop, get_or, Option, None, Some, Result, Ok, Err, arith, append_assoc, zero-add, add-zero}
+use Rattle.std.proofs.Common.{◌≡◌, ◌∙◌, refl, sym, subst, ℕ, suc, ◌+◌, ◌<◌, ◌==◌, nat_lt, Bool, true, false, cond, List, [], ◌∷◌, ◌++◌, length, get_or, None, Result, Ok, arith, append_assoc, zero-add, add-zero}
 use Rattle.std.specs.List.{concat}
 use Rattle.std.proofs.Math.Seq.{drop-append_seam}
 use Rattle.std.proofs.lemmas.Bool.{le-ltb}
@@ -7,9 +7,8 @@ use Rattle.std.proofs.lemmas.Bool.Decides.{nat_tests}
 use Rattle.std.proofs.lemmas.List.{length-append}
 use Rattle.json_tree.specs.Json.{Json}
 use Rattle.vs_bytes.specs.declared.rule.Rule.{Rule}
-use Rattle.vs_bytes.specs.declared.rule.Rule.TheVariants.{Offsets, ValueShort}
 use Rattle.variant_meta.specs.Written.{ends_from}
-use Rattle.variant_read.specs.Layout.{offset, count, region, container_size, fixed_size, last_offset, basic_type}
+use Rattle.variant_read.specs.Layout.{offset, container_size}
 use Rattle.variant_read.specs.Meaning.{field_fault, entries_from, entries, items_at, with_items, container, by_basic_type, value_of}
 use Rattle.variant_read.specs.Primitives.{Kind}
 use Rattle.variant_write.specs.Layout.{packed}

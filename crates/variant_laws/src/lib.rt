@@ -1,2 +1,11 @@
-//! What holds of Variant bytes that are written and read.
+//! What is written as Variant bytes reads back: the laws over the definitions of `variant_read` and
+//! `variant_write`, which know nothing of each other.
+//!
+//! | Module | What it holds |
+//! |---|---|
+//! | `laws` | the laws, each the contract of an empty function |
 #![tactic(auto)]
+
+mod laws;
+
+pub use laws::{coded_values_read_back, documents_read_back};

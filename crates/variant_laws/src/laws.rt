@@ -1,0 +1,26 @@
+//! What is written reads back. Each law is the contract of an empty function.
+
+ghost use Rattle.std.specs.Prelude.{◌≡◌, ◌+◌, ◌≤◌, ◌<◌, ◌^◌, ◌++◌, ℕ, List, length, Ok};
+ghost use Rattle.json_tree.specs.Json.{Json, depth_of};
+ghost use Rattle.json_tree.specs.Text.{text_of};
+ghost use Rattle.json_tree.specs.Valid.{IsValid};
+ghost use Rattle.variant_meta.specs.Written.{coded_names};
+ghost use Rattle.variant_read.specs.Meaning.{max_nesting, means};
+ghost use Rattle.variant_write.specs.Coded.{coded};
+ghost use Rattle.variant_write.specs.Conditions.{HasNames, IsWidths, max_text_len, max_width};
+ghost use Rattle.variant_write.specs.Dictionaries.{dictionary};
+ghost use Rattle.variant_laws.specs.Documents.{document_in};
+ghost use Rattle.variant_write.specs.declared.widths.Widths.{Widths};
+
+/// The bytes that are written for a value mean this value, whatever bytes follow them (VariantEncoding.md, "Value
+/// encoding"). The value may stand inside `above` arrays and objects, which count for the depth.
+pub fn coded_values_read_back()
+    ensures { (ns : List (List ℕ)) (json : Json) (widths : Widths) (rest : List ℕ) (above : ℕ) → length ns < 2 ^ 32 → IsWidths widths → IsValid json → HasNames ns json → above + depth_of json ≤ max_nesting → length (text_of json) ≤ max_text_len → means ns (coded ns json widths ++ rest) above ≡ Ok (json, length (coded ns json widths)) }
+{}
+
+/// The metadata that is written for the names of a value and the bytes that are written for the value mean
+/// together this value, whatever bytes follow each of them (VariantEncoding.md, "Metadata encoding", "Value
+/// encoding").
+pub fn documents_read_back()
+    ensures { (json : Json) (least : ℕ) (widths : Widths) (after rest : List ℕ) → 1 ≤ least → least ≤ max_width → IsWidths widths → IsValid json → depth_of json ≤ max_nesting → length (text_of json) ≤ max_text_len → document_in (coded_names least (dictionary json) ++ after) (coded (dictionary json) json widths ++ rest) ≡ Ok json }
+{}
