@@ -1,8 +1,10 @@
 pub mod Coded
 pub mod Composed
 pub mod FieldNames
+pub mod Holding
 pub mod Layouts
 pub mod NumberLists
 pub mod Plain
 pub mod ReadBack
 pub mod Walks
+pub mod ValidPlain
