@@ -1,5 +1,5 @@
 -- What holds of a result wherever there is one.
-use Rattle.std.proofs.Common.{◌≡◌, refl, sym, subst, Bool, true, false, cond, List, Result, Ok, Err}
+use Rattle.std.proofs.Common.{◌≡◌, refl, subst, Bool, true, false, cond, Result, Ok, Err}
 use Rattle.vs_bytes.specs.Outcome.{◌>>=◌}
 
 -- P holds of what is given, if anything is

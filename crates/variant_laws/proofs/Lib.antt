@@ -7,4 +7,6 @@ pub mod NumberLists
 pub mod Plain
 pub mod ReadBack
 pub mod Walks
+pub mod ValidItems
 pub mod ValidPlain
+pub mod ValidValues

@@ -1,8 +1,8 @@
 -- Values that hold no others are valid.
-use Rattle.std.proofs.Common.{◌≡◌, refl, subst, ℕ, zero, suc, ◌+◌, ◌-◌, ◌%◌, ◌^◌, ◌<◌, ◌≤◌, ◌==◌, nat_lt, nat_le, Bool, true, false, cond, List, length, slice_index, ℤ, pos, negsuc, int_lt, unsigned_abs, Ok, Err, arith, lit<}
+use Rattle.std.proofs.Common.{◌≡◌, refl, subst, ℕ, ◌+◌, ◌-◌, ◌%◌, ◌^◌, ◌<◌, ◌≤◌, ◌==◌, nat_lt, nat_le, Bool, true, false, cond, List, length, slice_index, pos, negsuc, int_lt, unsigned_abs, arith, lit<}
 use Rattle.std.proofs.lemmas.Bool.Decides.{nat_tests}
 use Rattle.std.specs.Str.{is_utf8}
-use Rattle.exact_num.specs.Decimal.{IsNumber, least, signed, shortened}
+use Rattle.exact_num.specs.Decimal.{IsNumber, least, shortened}
 use Rattle.exact_num.specs.Unscaled.{half, little_integer, signed_number}
 use Rattle.exact_num.proofs.Powers.{ten_grows}
 use Rattle.exact_num.proofs.Shortening.{shortened_is}
@@ -14,7 +14,7 @@ use Rattle.vs_bytes.specs.Numbers.{number, part}
 use Rattle.vs_bytes.specs.declared.rule.Rule.{Rule}
 use Rattle.vs_bytes.proofs.Numbers.{number_fits}
 use Rattle.variant_read.specs.Layout.{type_header}
-use Rattle.variant_read.specs.Primitives.{Kind, Meaning, constant_kind, unread_kind, decimal, integer_kind, decimal_kind, text_at, short_string, string_kind, kind_of, primitive, max_scale, unscaled_bound}
+use Rattle.variant_read.specs.Primitives.{Kind, constant_kind, unread_kind, decimal, integer_kind, decimal_kind, text_at, short_string, string_kind, kind_of, primitive, max_scale, unscaled_bound}
 use Rattle.variant_laws.specs.Bytes.{AreBytes}
 use Rattle.variant_laws.proofs.Holding.{Holds, holds_ok, holds_err, holds_if}
 

@@ -1,6 +1,8 @@
-//! What is written reads back. Each law is the contract of an empty function.
+//! What is written reads back, and what is read is valid. Each law is the contract of an empty function.
 
-ghost use Rattle.std.specs.Prelude.{◌≡◌, ◌+◌, ◌≤◌, ◌<◌, ◌^◌, ◌++◌, ℕ, List, length, Ok};
+ghost use Rattle.std.specs.Prelude.{◌≡◌, true, ◌+◌, ◌-◌, ◌≤◌, ◌<◌, ◌^◌, ◌++◌, ℕ, List, length, Ok};
+ghost use Rattle.std.specs.List.{list_all};
+ghost use Rattle.std.specs.Str.{is_utf8};
 ghost use Rattle.json_tree.specs.Json.{Json, depth_of};
 ghost use Rattle.json_tree.specs.Text.{text_of};
 ghost use Rattle.json_tree.specs.Valid.{IsValid};
@@ -9,6 +11,7 @@ ghost use Rattle.variant_read.specs.Meaning.{max_nesting, means};
 ghost use Rattle.variant_write.specs.Coded.{coded};
 ghost use Rattle.variant_write.specs.Conditions.{HasNames, IsWidths, max_text_len, max_width};
 ghost use Rattle.variant_write.specs.Dictionaries.{dictionary};
+ghost use Rattle.variant_laws.specs.Bytes.{AreBytes};
 ghost use Rattle.variant_laws.specs.Documents.{document_in};
 ghost use Rattle.variant_write.specs.declared.widths.Widths.{Widths};
 
@@ -23,4 +26,16 @@ pub fn coded_values_read_back()
 /// encoding").
 pub fn documents_read_back()
     ensures { (json : Json) (least : ℕ) (widths : Widths) (after rest : List ℕ) → 1 ≤ least → least ≤ max_width → IsWidths widths → IsValid json → depth_of json ≤ max_nesting → length (text_of json) ≤ max_text_len → document_in (coded_names least (dictionary json) ++ after) (coded (dictionary json) json widths ++ rest) ≡ Ok json }
+{}
+
+/// What bytes mean is a valid value that nests no deeper than it may, and is no longer than the bytes: its texts and
+/// names are UTF-8, its numbers are in least scale with at most 38 digits and 38 places, and the names of each object
+/// strictly rise. So every value that is read can be written again.
+pub fn values_are_valid()
+    ensures { (ns : List (List ℕ)) (bytes : List ℕ) (above : ℕ) (json : Json) (size : ℕ) → list_all is_utf8 ns ≡ true → AreBytes bytes → means ns bytes above ≡ Ok (json, size) → IsValid json × (depth_of json ≤ max_nesting - above) × (size ≤ length bytes) }
+{}
+
+/// So is what metadata and a value mean together.
+pub fn documents_are_valid()
+    ensures { (metadata value : List ℕ) (json : Json) → AreBytes value → document_in metadata value ≡ Ok json → IsValid json × (depth_of json ≤ max_nesting) }
 {}

@@ -1,5 +1,5 @@
-//! What is written as Variant bytes reads back: the laws over the definitions of `variant_read` and
-//! `variant_write`, which know nothing of each other.
+//! What is written as Variant bytes reads back, and what is read is valid: the laws over the definitions of
+//! `variant_read` and `variant_write`, which know nothing of each other.
 //!
 //! | Module | What it holds |
 //! |---|---|
@@ -8,4 +8,6 @@
 
 mod laws;
 
-pub use laws::{coded_values_read_back, documents_read_back};
+pub use laws::{
+    coded_values_read_back, documents_are_valid, documents_read_back, values_are_valid,
+};
