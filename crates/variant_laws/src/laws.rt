@@ -30,7 +30,7 @@ pub fn documents_read_back()
 
 /// What bytes mean is a valid value that nests no deeper than it may, and is no longer than the bytes: its texts and
 /// names are UTF-8, its numbers are in least scale with at most 38 digits and 38 places, and the names of each object
-/// strictly rise. So every value that is read can be written again.
+/// strictly rise. So what is read can be written again, where its text isn't too long.
 pub fn values_are_valid()
     ensures { (ns : List (List ℕ)) (bytes : List ℕ) (above : ℕ) (json : Json) (size : ℕ) → list_all is_utf8 ns ≡ true → AreBytes bytes → means ns bytes above ≡ Ok (json, size) → IsValid json × (depth_of json ≤ max_nesting - above) × (size ≤ length bytes) }
 {}
