@@ -10,3 +10,4 @@ pub mod Walks
 pub mod ValidItems
 pub mod ValidPlain
 pub mod ValidValues
+pub mod WritableParts

@@ -14,16 +14,15 @@ use Rattle.variant_laws.proofs.Holding.{Holds, holds_ok, holds_err, holds_if, ho
 use Rattle.variant_laws.proofs.ValidItems.{IsGoodKind, value_good, container_good}
 use Rattle.variant_laws.proofs.ValidPlain.{IsGood, unread_good}
 
-within_good : (ns : List (List ℕ)) (room : ℕ) → list_all is_utf8 ns ≡ true → IsGoodKind room (value_within ns room)
+within_good : (ns : List (List ℕ)) (room : ℕ) → list_all is_utf8 ns ≡ true → IsGoodKind ns room (value_within ns room)
 unfolding value_within
-within_good ns zero utf8 = value_good zero _ (unread_good zero ValueTooDeep)
-within_good ns (suc room) utf8 = value_good (suc room) _ (container_good ns room (value_within ns room) utf8 (within_good ns room utf8))
+within_good ns zero utf8 = value_good ns zero _ (unread_good ns zero ValueTooDeep)
+within_good ns (suc room) utf8 = value_good ns (suc room) _ (container_good ns room (value_within ns room) utf8 (within_good ns room utf8))
 
-pub read_valid : (ns : List (List ℕ)) (bytes : List ℕ) (above : ℕ) (json : Json) (size : ℕ) → list_all is_utf8 ns ≡ true → AreBytes bytes → means ns bytes above ≡ Ok (json, size) → IsValid json × (depth_of json ≤ max_nesting - above) × (size ≤ length bytes)
+pub read_valid : (ns : List (List ℕ)) (bytes : List ℕ) (above : ℕ) (json : Json) (size : ℕ) → list_all is_utf8 ns ≡ true → AreBytes bytes → means ns bytes above ≡ Ok (json, size) → IsGood ns (max_nesting - above) (length bytes) (json, size)
 unfolding means
 read_valid ns bytes above json size utf8 are h =
-    let is = (within_good ns (max_nesting - above) utf8 bytes are).held (json, size) h in
-    (is.valid, is.depth, is.inside)
+    (within_good ns (max_nesting - above) utf8 bytes are).held (json, size) h
 
 -- The names of metadata are UTF-8.
 
@@ -54,4 +53,4 @@ document_valid metadata value json are h = whole.held json h
     whole : Holds good (document_in metadata value)
     whole =
         holds_then (λ ns. list_all is_utf8 ns ≡ true) good (names metadata) _ (names_good metadata) (λ ns utf8.
-        holds_then (IsGood max_nesting (length value)) good (value_within ns max_nesting value) _ (within_good ns max_nesting utf8 value are) (λ read is. holds_ok good read.0 (is.valid, is.depth)))
+        holds_then (IsGood ns max_nesting (length value)) good (value_within ns max_nesting value) _ (within_good ns max_nesting utf8 value are) (λ read is. holds_ok good read.0 (is.valid, is.depth)))

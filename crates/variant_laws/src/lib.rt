@@ -9,5 +9,6 @@
 mod laws;
 
 pub use laws::{
-    coded_values_read_back, documents_are_valid, documents_read_back, values_are_valid,
+    coded_values_read_back, documents_are_valid, documents_read_back, parts_are_writable,
+    values_are_valid,
 };
