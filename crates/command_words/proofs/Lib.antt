@@ -1,2 +1,4 @@
--- what comes after the `=` of an option is text
-pub mod Fronts
+-- an option's name and value, where its word is cut
+pub mod Cuts
+-- the value that was found so far
+pub mod Values

@@ -1,23 +1,30 @@
 -- How the words are read: what was given so far, and what the words after it give.
 use Rattle.std.specs.Prelude.{◌≡◌, ℕ, List, ◌++◌, map, Option, None, Some, Result, Ok, Err}
 use Rattle.std.specs.Option.{option_map}
+use Rattle.command_words.specs.Arguments.{Arguments}
 use Rattle.command_words.specs.Scan.{Given}
+use Rattle.command_words.specs.Variant.{WidthsGiven}
+use Rattle.command_words.specs.declared.arguments.CommandWords.{CommandWords}
+use Rattle.command_words.specs.declared.arguments.OptionWord.{OptionWord}
 use Rattle.command_words.specs.declared.scan.ScanWords.{ScanWords}
+use Rattle.command_words.specs.declared.widths.VariantWords.{VariantWords}
 use Rattle.command_words.specs.declared.fault.WordFault.{WordFault}
 use Rattle.command_words.specs.declared.fault.WordFault.TheVariants.{Usage, NoMemory}
+
+abbrev pub option_of : OptionWord → List ℕ × List ℕ
+option_of word = (word.name.now, word.value.now)
+
+abbrev pub given_by : CommandWords → Arguments
+given_by words = record { options = map option_of words.options.items; operands = map (λ word. word.now) words.operands.items }
 
 abbrev pub texts_of : ScanWords → Given
 texts_of words = record { filter = option_map (λ text. text.now) words.filter; paths = map (λ text. text.now) words.paths.items }
 
--- the filter may be given once
-abbrev pub one_filter : Option (List ℕ) → Option (List ℕ) → List (List ℕ) → Option Given
-one_filter None other paths = Some (record { filter = other; paths = paths })
-one_filter (Some text) None paths = Some (record { filter = Some text; paths = paths })
-one_filter (Some text) (Some other) paths = None
+abbrev pub widths_of : VariantWords → WidthsGiven
+widths_of words = record { offset = words.offset_width; id = words.id_width }
 
-abbrev pub before : Given → Option Given → Option Given
-before given None = None
-before given (Some more) = one_filter given.filter more.filter (given.paths ++ more.paths)
+abbrev pub before : Arguments → Option Arguments → Option Arguments
+before given more = option_map (λ m. record { options = given.options ++ m.options; operands = given.operands ++ m.operands }) more
 
 -- the same is given, or the words aren't the command's. Out of memory says nothing
 abbrev pub ReadsWords : {A B : Type 0} → (A → B) → Result A WordFault → Option B → Type 0
