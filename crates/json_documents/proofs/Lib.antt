@@ -1,2 +1,3 @@
 pub mod Walks
 pub mod Calling
+pub mod InputValues

@@ -1,7 +1,9 @@
 -- The documents of an input, line by line, and how the walk over them ends.
-use Rattle.std.specs.Prelude.{◌≡◌, ℕ, ◌+◌, ◌^◌, List, [], ◌∷◌, true, false, cond}
+use Rattle.std.specs.Prelude.{◌≡◌, ℕ, ◌+◌, ◌*◌, ◌^◌, ◌≤◌, length, List, [], ◌∷◌, true, false, cond}
 use Rattle.json_tree.specs.Json.{Json}
-use Rattle.json_lines.specs.Cut.{Lines, none, last, over, line, lines_of, is_long, is_blank}
+use Rattle.json_tree.specs.Text.{text_of}
+use Rattle.json_lines.specs.Cut.{Lines, none, last, over, line, lines_of, is_long, is_blank, max_line}
+use Rattle.exact_json.specs.Document.{IsLineValue}
 use Rattle.exact_json.specs.Meaning.{Spells, IsFirstFault}
 use Rattle.exact_json.specs.declared.fault.DocFault.{DocFault}
 use Rattle.exact_json.specs.declared.fault.DocFault.TheVariants.{LineTooLong}
@@ -48,3 +50,9 @@ max_input = 2 ^ 40
 -- an input has these documents, and this is how it ends
 abbrev pub HasDocuments : List ℕ → List Json → Ending → Type 0
 HasDocuments input documents ending = Walks (lines_of max_input input) 0 documents ending
+
+-- what every document of an input is: a value of a line, whose canonical text is at most ten times as long as
+-- a line may be
+pub record IsInputValue (json : Json) : Type 0 where
+  pub is_line_value : IsLineValue json
+  pub short : length (text_of json) ≤ 10 * max_line

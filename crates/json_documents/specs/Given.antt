@@ -1,14 +1,13 @@
 -- What was given of an input so far, and what the next call gives.
 use Rattle.std.specs.Prelude.{◌≡◌, ◌⊎◌, ℕ, ◌+◌, ◌<◌, ◌≤◌, List, [], ◌∷◌, ◌++◌, Option, None, Some, Result, Ok, Err, length}
 use Rattle.json_tree.specs.Json.{Json}
-use Rattle.json_tree.specs.Order.{IsOrdered}
 use Rattle.json_tree.specs.View.{view}
 use Rattle.json_tree.specs.declared.types.Tree.{Tree}
 use Rattle.json_lines.specs.Cut.{lines_of}
 use Rattle.json_lines.specs.Next.{State, nothing, ended}
 use Rattle.json_lines.specs.Takings.{AreWhole}
 use Rattle.exact_json.specs.Meaning.{Spells, IsFirstFault}
-use Rattle.json_documents.specs.Documents.{Ending, Walks, HasDocuments, max_input}
+use Rattle.json_documents.specs.Documents.{Ending, Walks, HasDocuments, IsInputValue, max_input}
 use Rattle.json_documents.specs.Input.{GivesAll, Stops}
 use Rattle.json_documents.specs.declared.faults.InputFault.{InputFault}
 use Rattle.json_documents.specs.declared.faults.InputFault.TheVariants as fault
@@ -47,13 +46,13 @@ Gives input left s documents (Err why) = Stops input left documents why
 
 -- after a document more can come, and less of the input still counts
 abbrev pub GoesOn : State → State → Result (Option Tree) InputFault → Type 0
-GoesOn s t (Ok (Some tree)) = IsOrdered (view tree) × IsGoing t × (t.room < s.room)
+GoesOn s t (Ok (Some tree)) = IsInputValue (view tree) × IsGoing t × (t.room < s.room)
 GoesOn s t (Ok None) = Unit {0}
 GoesOn s t (Err why) = Unit {0}
 
 -- the document of line n, or the line's first fault
 abbrev pub ReadsLine : ℕ → List ℕ → Result Tree InputFault → Type 0
-ReadsLine n line (Ok tree) = Spells line (view tree) × IsOrdered (view tree)
+ReadsLine n line (Ok tree) = Spells line (view tree) × IsInputValue (view tree)
 ReadsLine n line (Err (fault.BadLine m why)) = (m ≡ n) × IsFirstFault line why
 ReadsLine n line (Err fault.InputTooLong) = ⊥
 ReadsLine n line (Err fault.ReadFault) = ⊥

@@ -98,6 +98,7 @@ fn next_line<S: Source>(lines: &mut Lines, source: &mut S) -> Result<Next, LineF
 }
 
 // The document in line `line`, or the line's first fault.
+#[tactic(auto, using(crate::proofs::InputValues::input_value))]
 fn read_document(alloc: Global, line: u64, bytes: &[u8]) -> Result<Tree, InputFault>
     ensures { ReadsLine line bytes.now result }
 {

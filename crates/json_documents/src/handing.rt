@@ -2,8 +2,8 @@
 
 ghost use Rattle.std.specs.Prelude.{◌≡◌, List, ℕ, [], ◌∷◌, ◌++◌, OnOk};
 ghost use Rattle.json_tree.specs.Json.{Json};
-ghost use Rattle.json_tree.specs.Order.{IsOrdered};
 ghost use Rattle.json_tree.specs.View.{view};
+ghost use Rattle.json_documents.specs.Documents.{IsInputValue};
 ghost use Rattle.json_documents.specs.Input.{OfInput, IsWithinLimit};
 ghost use Rattle.json_documents.specs.Given.{at_start};
 ghost use Rattle.json_documents.specs.Taking.{Takes, HandsOn};
@@ -33,7 +33,7 @@ pub trait Taker<D> {
     /// Takes one more document. After an `Err` no more is to be taken.
     fn take(&mut self, device: &mut D, document: &Tree) -> Result<(), Self::Fault>
         requires ready { ready self.old device.old }
-        requires ordered { IsOrdered (view document.now) }
+        requires document { IsInputValue (view document.now) }
         ensures takes { (start : Self) (first : D) (documents : List Json) → took start first documents self.old device.old → Takes (took start first (documents ++ view document.now ∷ []) self.new device.new) (λ fault. refused start first documents (view document.now) fault self.new device.new) result }
         ensures goes_on { OnOk result (ready self.new device.new) };
 
@@ -88,7 +88,7 @@ fn walk<S: Source, D, T: Taker<D>>(
 // One document, which isn't needed afterwards.
 fn pass_on<D, T: Taker<D>>(taker: &mut T, device: &mut D, document: Tree) -> Result<(), T::Fault>
     requires ready { T.ready taker.old device.old }
-    requires ordered { IsOrdered (view document) }
+    requires document { IsInputValue (view document) }
     ensures takes { (start : T) (first : D) (documents : List Json) → T.took start first documents taker.old device.old → Takes (T.took start first (documents ++ view document ∷ []) taker.new device.new) (λ fault. T.refused start first documents (view document) fault taker.new device.new) result }
     ensures goes_on { OnOk result (T.ready taker.new device.new) }
 {
