@@ -1,6 +1,6 @@
 -- Words that ask for a query aren't wrong, and they ask for one.
 use Rattle.std.proofs.Common.{◌≡◌, ◌∙◌, refl, sym, ap, subst, ℕ, zero, suc, ◌<◌, List, [], ◌∷◌, length, get_or, arith, true, false, Option, None, Some}
-use Rattle.command_words.specs.Scan.{Given, scan_words}
+use Rattle.command_words.specs.Scan.{Given}
 use Rattle.query_tree.specs.Asked.{Asked}
 use Rattle.query_tree.specs.Formula.{Formula, is_suited}
 use Rattle.query_tree.specs.declared.step.Step.{Step}
@@ -8,18 +8,16 @@ use Rattle.path_parsing.specs.Grammar.{IsPath}
 use Rattle.path_parsing.proofs.Texts.{paths_are_one}
 use Rattle.filter_parsing.specs.Grammar.{IsFilter}
 use Rattle.filter_parsing.proofs.Texts.{filter_one}
+use Rattle.variant_store.specs.Call.{Call, call_of}
+use Rattle.variant_store.specs.Call as call
+use Rattle.variant_store.specs.Command.{Command, prints, AskStream, AskFor}
+use Rattle.variant_store.specs.Stream.{Stream, scan, variant}
 use Rattle.variant_store.specs.Words.{GiveScan, AsksFilter, ArePaths, is_repeated, IsAsked, LacksFilter, HasUnsuited, LacksPath, HasRepeated, AskScan, AskWrongly}
 use Rattle.variant_store.specs.declared.words.BadWords.{BadWords}
 use Rattle.variant_store.specs.declared.words.BadWords.TheVariants.{Usage, BadFilter, BadOrder, BadPath, RepeatedPath}
 
 one_given : (words : List (List ℕ)) (g h : Given) → GiveScan words g → GiveScan words h → g ≡ h
-one_given words g h a b =
-    let p = a.are_scan in
-    let q = b.are_scan in
-    let rest : a.rest ≡ b.rest = cc in
-    let same : scan_words a.rest ≡ Some h = subst (λ (ws : List (List ℕ)). scan_words ws ≡ Some h) (sym rest) b.are_given in
-    let here = a.are_given in
-    cc
+one_given words g h a b = let same : ◌≡◌ {A = Option Call} (Some (call.scan g)) (Some (call.scan h)) = sym a ∙ b in cc
 
 has_filter : (given : Option (List ℕ)) (filter : Option Formula) → AsksFilter given filter → LacksFilter given → ⊥
 has_filter None filter h k = let none = k.is_given in cc
@@ -74,14 +72,29 @@ are_unlike texts paths h unlike k =
 asked_given : (words : List (List ℕ)) (asked : Asked) (given : Given) → AskScan words asked → GiveScan words given → IsAsked given asked
 asked_given words asked given ask g = subst (λ (h : Given). IsAsked h asked) (one_given words ask.0 given ask.1 g) ask.2
 
-pub not_wrong : (words : List (List ℕ)) (asked : Asked) (bad : BadWords) → AskScan words asked → AskWrongly words bad → ⊥
-not_wrong words asked Usage ask wrong = wrong ask.0 ask.1
-not_wrong words asked BadFilter ask wrong = has_filter wrong.0.filter asked.filter (asked_given words asked wrong.0 ask wrong.1).asks_filter wrong.2
-not_wrong words asked BadOrder ask wrong = is_filter_suited wrong.0.filter asked.filter (asked_given words asked wrong.0 ask wrong.1).asks_filter wrong.2
-not_wrong words asked BadPath ask wrong = all_are_paths wrong.0.paths asked.paths (asked_given words asked wrong.0 ask wrong.1).are_paths wrong.2.1
-not_wrong words asked RepeatedPath ask wrong =
+scan_right : (words : List (List ℕ)) (asked : Asked) (bad : BadWords) → AskScan words asked → AskWrongly words bad → ⊥
+scan_right words asked Usage ask wrong = let given = ask.1 in cc
+scan_right words asked BadFilter ask wrong = has_filter wrong.0.filter asked.filter (asked_given words asked wrong.0 ask wrong.1).asks_filter wrong.2
+scan_right words asked BadOrder ask wrong = is_filter_suited wrong.0.filter asked.filter (asked_given words asked wrong.0 ask wrong.1).asks_filter wrong.2
+scan_right words asked BadPath ask wrong = all_are_paths wrong.0.paths asked.paths (asked_given words asked wrong.0 ask wrong.1).are_paths wrong.2.1
+scan_right words asked RepeatedPath ask wrong =
     let is_asked = asked_given words asked wrong.0 ask wrong.1 in
     are_unlike wrong.0.paths asked.paths is_asked.are_paths is_asked.unlike wrong.2.1
+
+-- widths are never wrong
+widths_right : (words : List (List ℕ)) (given : Call) (bad : BadWords) → call_of words ≡ Some given → ((g : Given) → given ≡ call.scan g → ⊥) → AskWrongly words bad → ⊥
+widths_right words given Usage e other wrong = cc
+widths_right words given BadFilter e other wrong = other wrong.0 (let f = wrong.1 in cc)
+widths_right words given BadOrder e other wrong = other wrong.0 (let f = wrong.1 in cc)
+widths_right words given BadPath e other wrong = other wrong.0 (let f = wrong.1 in cc)
+widths_right words given RepeatedPath e other wrong = other wrong.0 (let f = wrong.1 in cc)
+
+stream_right : (words : List (List ℕ)) (stream : Stream) (bad : BadWords) → AskStream words stream → AskWrongly words bad → ⊥
+stream_right words (scan asked) bad ask wrong = scan_right words asked bad ask wrong
+stream_right words (variant widths) bad ask wrong = widths_right words (call.variant (record { offset = widths.offset; id = widths.id })) bad ask (λ g e. cc) wrong
+
+pub not_wrong : (words : List (List ℕ)) (command : Command) (bad : BadWords) → AskFor words command → AskWrongly words bad → ⊥
+not_wrong words (prints stream) bad ask wrong = stream_right words stream bad ask wrong
 
 -- and words ask for one query
 

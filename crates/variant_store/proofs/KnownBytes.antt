@@ -8,14 +8,13 @@ use Rattle.json_documents.specs.Documents.{at_end}
 use Rattle.json_documents.specs.declared.faults.InputFault.TheVariants as why
 use Rattle.json_documents.specs.declared.faults.Stop.{Stop}
 use Rattle.json_documents.specs.declared.faults.Stop.TheVariants.{Input, Taker}
-use Rattle.query_tree.specs.Asked.{Asked}
-use Rattle.variant_store.specs.Command.{Command, scan, AskFor}
+use Rattle.variant_store.specs.Command.{Command, prints, AskFor}
 use Rattle.variant_store.specs.Ends.{stream_end}
 use Rattle.variant_store.specs.InMemory.{Prints, IsNamed, StopsAtLine, StopsAtLimit}
 use Rattle.variant_store.specs.Report.{Reports, IsReported, status_of}
-use Rattle.variant_store.specs.Scan.{Scans}
+use Rattle.variant_store.specs.Stream.{Stream}
+use Rattle.variant_store.specs.Streaming.{Streams}
 use Rattle.variant_store.specs.Top.{Does, Works, Runs, Ends, IsAnswer}
-use Rattle.variant_store.specs.Words.{AskScan}
 use Rattle.variant_store.specs.World.{World, world_of}
 use Rattle.variant_store.specs.declared.command_error.CommandError.{CommandError}
 use Rattle.variant_store.specs.declared.command_error.CommandError.TheVariants as error
@@ -26,24 +25,24 @@ in_memory input out = world_of (source_device input) (sink_device out)
 -- at status 0
 
 pub record Whole (words : List (List ℕ)) (input left : Given) (out out_now : Taken) : Type 0 where
-  pub asked : Asked
-  pub ask : AskScan words asked
-  pub prints : Prints asked input at_end out out_now
+  pub stream : Stream
+  pub ask : AskFor words (prints stream)
+  pub has_printed : Prints stream input at_end out out_now
   pub at_end : left.left ≡ []
 
-whole_scan : (words : List (List ℕ)) (asked : Asked) (input left : Given) (out out_now : Taken) (end : Result (Unit {0}) (Stop SinkError)) → AskScan words asked → Ok tt ≡ stream_end end → Scans asked (in_memory input out) (in_memory left out_now) end → Whole words input left out out_now
-whole_scan words asked input left out out_now (Ok u) ask e s =
+whole_stream : (words : List (List ℕ)) (stream : Stream) (input left : Given) (out out_now : Taken) (end : Result (Unit {0}) (Stop SinkError)) → AskFor words (prints stream) → Ok tt ≡ stream_end end → Streams stream (in_memory input out) (in_memory left out_now) end → Whole words input left out out_now
+whole_stream words stream input left out out_now (Ok u) ask e s =
     let gives = s.0.are_of input.left refl in
     let none = gives.1 in
-    record { asked = asked; ask = ask; prints = record { documents = s.0.documents; are_all = gives.0; answers = s.0.answers }; at_end = cc }
-whole_scan words asked input left out out_now (Err (Input fault)) ask e s = cc
-whole_scan words asked input left out out_now (Err (Taker fault)) ask e s = cc
+    record { stream = stream; ask = ask; has_printed = record { documents = s.0.documents; are_all = gives.0; answers = s.0.answers }; at_end = cc }
+whole_stream words stream input left out out_now (Err (Input fault)) ask e s = cc
+whole_stream words stream input left out out_now (Err (Taker fault)) ask e s = cc
 
 pub whole : (words : List (List ℕ)) (input left : Given) (out out_now : Taken) → Works words (in_memory input out) (in_memory left out_now) (Ok tt) → Whole words input left out out_now
 whole words input left out out_now works = by works.command works.asked works.does
   where
     by : (command : Command) → AskFor words command → Does command (in_memory input out) (in_memory left out_now) (Ok tt) → Whole words input left out out_now
-    by (scan asked) ask does = whole_scan words asked input left out out_now does.0 ask does.1 does.2
+    by (prints stream) ask does = whole_stream words stream input left out out_now does.0 ask does.1 does.2
 
 not_zero : (error : CommandError) → status_of error ≡ 0 → ⊥
 not_zero (error.BadWords bad) e = omega (arith, e)
@@ -74,25 +73,25 @@ reported : (error : CommandError) (status : ℕ) (err err_now : Device) → stat
 reported error status err err_now three (inl h) = (sym h.0 ∙ three, h.1)
 reported error status err err_now three (inr h) = let seven = h.0 in absurd (omega (arith, seven, three))
 
-abbrev StopsAt : Asked → Given → Taken → Taken → Taken → Taken → Type 0
-StopsAt asked input out out_now err err_now = StopsAtLine asked input out out_now err err_now ⊎ StopsAtLimit asked input out out_now err err_now
+abbrev StopsAt : Stream → Given → Taken → Taken → Taken → Taken → Type 0
+StopsAt stream input out out_now err err_now = StopsAtLine stream input out out_now err err_now ⊎ StopsAtLimit stream input out out_now err err_now
 
-stopped : (asked : Asked) (input left : Given) (out out_now err err_now : Taken) (status : ℕ) (end : Result (Unit {0}) (Stop SinkError)) → status ≡ 3 → Scans asked (in_memory input out) (in_memory left out_now) end
-    → Ends (stream_end end) status (sink_device err) (sink_device err_now) → StopsAt asked input out out_now err err_now
-stopped asked input left out out_now err err_now status (Ok u) three s e = let zero_is = e.0 in absurd (omega (arith, zero_is, three))
-stopped asked input left out out_now err err_now status (Err (Input (why.BadLine n fault))) three s e =
+stopped : (stream : Stream) (input left : Given) (out out_now err err_now : Taken) (status : ℕ) (end : Result (Unit {0}) (Stop SinkError)) → status ≡ 3 → Streams stream (in_memory input out) (in_memory left out_now) end
+    → Ends (stream_end end) status (sink_device err) (sink_device err_now) → StopsAt stream input out out_now err err_now
+stopped stream input left out out_now err err_now status (Ok u) three s e = let zero_is = e.0 in absurd (omega (arith, zero_is, three))
+stopped stream input left out out_now err err_now status (Err (Input (why.BadLine n fault))) three s e =
     let told = reported (error.BadLine n fault) status (sink_device err) (sink_device err_now) three e in
     inl (record { line = n; fault = fault; prints = record { documents = s.0.documents; are_all = s.0.are_of input.left refl; answers = s.0.answers }; is_named = named (error.BadLine n fault) err err_now told.1 })
-stopped asked input left out out_now err err_now status (Err (Input why.InputTooLong)) three s e =
+stopped stream input left out out_now err err_now status (Err (Input why.InputTooLong)) three s e =
     let told = reported error.InputTooLong status (sink_device err) (sink_device err_now) three e in
     inr (record { prints = record { documents = s.0.documents; are_all = s.0.are_of input.left refl; answers = s.0.answers }; is_named = named error.InputTooLong err err_now told.1 })
-stopped asked input left out out_now err err_now status (Err (Input why.ReadFault)) three s e = let told = (reported error.ReadFault status (sink_device err) (sink_device err_now) three e).0 in absurd (omega (arith, told))
-stopped asked input left out out_now err err_now status (Err (Input why.NoMemory)) three s e = let told = (reported error.NoMemory status (sink_device err) (sink_device err_now) three e).0 in absurd (omega (arith, told))
-stopped asked input left out out_now err err_now status (Err (Taker sink.Failed)) three s e = let told = (reported error.WriteFault status (sink_device err) (sink_device err_now) three e).0 in absurd (omega (arith, told))
-stopped asked input left out out_now err err_now status (Err (Taker sink.NoMemory)) three s e = let told = (reported error.NoMemory status (sink_device err) (sink_device err_now) three e).0 in absurd (omega (arith, told))
+stopped stream input left out out_now err err_now status (Err (Input why.ReadFault)) three s e = let told = (reported error.ReadFault status (sink_device err) (sink_device err_now) three e).0 in absurd (omega (arith, told))
+stopped stream input left out out_now err err_now status (Err (Input why.NoMemory)) three s e = let told = (reported error.NoMemory status (sink_device err) (sink_device err_now) three e).0 in absurd (omega (arith, told))
+stopped stream input left out out_now err err_now status (Err (Taker sink.Failed)) three s e = let told = (reported error.WriteFault status (sink_device err) (sink_device err_now) three e).0 in absurd (omega (arith, told))
+stopped stream input left out out_now err err_now status (Err (Taker sink.NoMemory)) three s e = let told = (reported error.NoMemory status (sink_device err) (sink_device err_now) three e).0 in absurd (omega (arith, told))
 
 abbrev StopsSo : List (List ℕ) → Given → Taken → Taken → Taken → Taken → Type 0
-StopsSo words input out out_now err err_now = (asked : Asked) × AskScan words asked × StopsAt asked input out out_now err err_now
+StopsSo words input out out_now err err_now = (stream : Stream) × AskFor words (prints stream) × StopsAt stream input out out_now err err_now
 
 pub stops : (words : List (List ℕ)) (input left : Given) (out out_now err err_now : Taken) (status : ℕ) → status ≡ 3 → IsAnswer words (in_memory input out) (in_memory left out_now) (sink_device err) (sink_device err_now) status
     → StopsSo words input out out_now err err_now
@@ -102,7 +101,7 @@ stops words input left out out_now err err_now status three a = by a.runs
     ended done e = subst (λ (d : Result (Unit {0}) CommandError). Ends d status (sink_device err) (sink_device err_now)) e a.ends
 
     by_command : (command : Command) → AskFor words command → Does command (in_memory input out) (in_memory left out_now) a.done → StopsSo words input out out_now err err_now
-    by_command (scan asked) ask does = (asked, ask, stopped asked input left out out_now err err_now status does.0 three does.2 (ended (stream_end does.0) does.1))
+    by_command (prints stream) ask does = (stream, ask, stopped stream input left out out_now err err_now status does.0 three does.2 (ended (stream_end does.0) does.1))
 
     by : Runs words (in_memory input out) (in_memory left out_now) a.done → StopsSo words input out out_now err err_now
     by (inl works) = by_command works.command works.asked works.does

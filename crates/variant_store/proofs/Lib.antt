@@ -8,5 +8,5 @@ pub mod Gathering
 pub mod KnownBytes
 -- the reading of words, path by path
 pub mod ReadWords
--- the ends of a scan
-pub mod ScanEnds
+-- the ends of a command that prints something of each document
+pub mod StreamEnds

@@ -1,10 +1,8 @@
 -- Lemmas on the reading of words.
-use Rattle.std.proofs.Common.{◌≡◌, ◌∙◌, inl, inr, refl, sym, ap, subst, ℕ, ◌+◌, ◌<◌, List, [], ◌∷◌, ◌++◌, length, zero, suc, map, take, get_or, arith, Bool, true, false, not, Some}
+use Rattle.std.proofs.Common.{◌≡◌, inl, inr, refl, sym, ap, subst, ℕ, ◌+◌, ◌<◌, List, [], ◌∷◌, ◌++◌, length, zero, suc, map, take, get_or, arith}
 use Rattle.std.specs.Borrow.{Bor}
-use Rattle.std.specs.Cmp.Lexicographic.{same_text, pointwise}
-use Rattle.std.specs.Prelude.{nat_eq, codes}
 use Rattle.std.proofs.lemmas.List.{map-append}
-use Rattle.command_words.specs.Scan.{Given, scan_words}
+use Rattle.command_words.specs.Scan.{Given}
 use Rattle.query_tree.specs.declared.step.Step.{Step}
 use Rattle.query_tree.specs.declared.path.Path.{Path}
 use Rattle.query_tree.specs.View.{steps_of}
@@ -59,20 +57,3 @@ filter_refused words given NoMemory g h = tt
 pub paths_refused : (words : List (List ℕ)) (given : Given) (fault : WordsFault) → GiveScan words given → IsFiltered given → IsRefused (AreWrongPaths given.paths) fault → IsRefused (AskWrongly words) fault
 paths_refused words given (Wrong bad) g filtered h = subst (λ (b : BadWords). AskWrongly words b) (sym h.0) (given, g, (filtered, h.1))
 paths_refused words given NoMemory g filtered h = tt
-
--- what is given after `scan` is given by the words
-pub gives_scan : (words : List (List ℕ)) (given : Given) → scan_words words ≡ Some given → GiveScan (codes "scan" ∷ words) given
-gives_scan words given e = record { rest = words; are_scan = refl; are_given = e }
-
-same_bytes : (a b : List ℕ) → not (pointwise nat_eq a b) ≡ false → a ≡ b
-same_bytes a b h = by (pointwise nat_eq a b) refl h
-  where
-    by : (t : Bool) → pointwise nat_eq a b ≡ t → not t ≡ false → a ≡ b
-    by true e f = same_text a b (sym e)
-    by false e f = cc
-
--- the words are `scan` and others
-pub are_scan : (words : List (List ℕ)) (command bytes scan : List ℕ) (others : List (List ℕ)) → words ≡ command ∷ others → bytes ≡ command → scan ≡ codes "scan" → not (pointwise nat_eq bytes scan) ≡ false → words ≡ codes "scan" ∷ others
-are_scan words command bytes scan others w b s t =
-    let is_scan : command ≡ codes "scan" = sym b ∙ same_bytes bytes scan t ∙ s in
-    w ∙ ap (λ z. z ∷ others) is_scan

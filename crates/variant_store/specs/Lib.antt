@@ -1,11 +1,13 @@
 pub mod Answer
 pub mod Beginning
+pub mod Call
 pub mod Command
 pub mod Ends
 pub mod Gathering
 pub mod InMemory
 pub mod Report
-pub mod Scan
+pub mod Stream
+pub mod Streaming
 pub mod Top
 pub mod Words
 pub mod World

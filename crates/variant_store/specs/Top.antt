@@ -6,9 +6,9 @@ use Rattle.json_tree.specs.Json.{Json}
 use Rattle.json_documents.specs.Documents.{at_end, HasDocuments}
 use Rattle.json_documents.specs.declared.faults.Stop.{Stop}
 use Rattle.variant_store.specs.Words.{AskWrongly}
-use Rattle.variant_store.specs.Command.{Command, scan, AskFor}
+use Rattle.variant_store.specs.Command.{Command, prints, AskFor}
 use Rattle.variant_store.specs.World.{World}
-use Rattle.variant_store.specs.Scan.{Scans}
+use Rattle.variant_store.specs.Streaming.{Streams}
 use Rattle.variant_store.specs.Ends.{stream_end}
 use Rattle.variant_store.specs.Report.{IsReported}
 use Rattle.variant_store.specs.declared.words.BadWords.{BadWords}
@@ -17,7 +17,7 @@ use Rattle.variant_store.specs.declared.command_error.CommandError.TheVariants a
 
 -- what a command does, by how the call ends
 abbrev pub Does : Command → World → World → Result (Unit {0}) CommandError → Type 0
-Does (scan asked) before after done = (end : Result (Unit {0}) (Stop SinkError)) × (done ≡ stream_end end) × Scans asked before after end
+Does (prints stream) before after done = (end : Result (Unit {0}) (Stop SinkError)) × (done ≡ stream_end end) × Streams stream before after end
 
 -- the words ask for a command, and it was done so
 pub record Works (words : List (List ℕ)) (before after : World) (done : Result (Unit {0}) CommandError) : Type 0 where
@@ -53,7 +53,7 @@ pub record IsAnswer (words : List (List ℕ)) (before after : World) (err err_no
 
 -- the command has nothing to refuse in what it is handed
 abbrev pub IsAdmitted : Command → World → Type 0
-IsAdmitted (scan asked) before = (input : List ℕ) × (documents : List Json) × (before.input.bytes ≡ Some input) × HasDocuments input documents at_end
+IsAdmitted (prints stream) before = (input : List ℕ) × (documents : List Json) × (before.input.bytes ≡ Some input) × HasDocuments input documents at_end
 
 -- admitted input and no fault of a device give 0, or no memory
 abbrev pub Completes : List (List ℕ) → World → World → ℕ → Type 0

@@ -1,23 +1,23 @@
 -- What the words of a call ask for, and what is wrong with those that ask for nothing.
-use Rattle.std.specs.Prelude.{◌≡◌, ◌⊎◌, ℕ, List, [], ◌∷◌, map, codes, Bool, true, false, Option, Some, None, Result, Ok, Err, Contains}
+use Rattle.std.specs.Prelude.{◌≡◌, ◌⊎◌, ℕ, List, [], ◌∷◌, map, Bool, true, false, Option, Some, None, Result, Ok, Err, Contains}
 use Rattle.vs_bytes.specs.Names.{repeats}
-use Rattle.command_words.specs.Scan.{Given, scan_words}
+use Rattle.command_words.specs.Scan.{Given}
 use Rattle.query_tree.specs.Asked.{Asked}
 use Rattle.query_tree.specs.Formula.{Formula, is_suited}
 use Rattle.query_tree.specs.PathText.{path_text}
 use Rattle.query_tree.specs.declared.step.Step.{Step}
 use Rattle.path_parsing.specs.Grammar.{IsPath}
 use Rattle.filter_parsing.specs.Grammar.{IsFilter}
+use Rattle.variant_store.specs.Call.{Call, call_of}
+use Rattle.variant_store.specs.Call as call
 use Rattle.variant_store.specs.declared.words.BadWords.{BadWords}
 use Rattle.variant_store.specs.declared.words.BadWords.TheVariants.{Usage, BadFilter, BadOrder, BadPath, RepeatedPath}
 use Rattle.variant_store.specs.declared.words.WordsFault.{WordsFault}
 use Rattle.variant_store.specs.declared.words.WordsFault.TheVariants.{Wrong, NoMemory}
 
 -- the words are `scan` and words of it, which give this
-pub record GiveScan (words : List (List ℕ)) (given : Given) : Type 0 where
-  pub rest : List (List ℕ)
-  pub are_scan : words ≡ codes "scan" ∷ rest
-  pub are_given : scan_words rest ≡ Some given
+abbrev pub GiveScan : List (List ℕ) → Given → Type 0
+GiveScan words given = call_of words ≡ Some (call.scan given)
 
 -- the filter of a text, if there is one; its literals suit their relations
 abbrev pub AsksFilter : Option (List ℕ) → Option Formula → Type 0
@@ -76,13 +76,13 @@ IsFiltered given = (filter : Option Formula) × AsksFilter given.filter filter
 abbrev pub AskScan : List (List ℕ) → Asked → Type 0
 AskScan words asked = (given : Given) × GiveScan words given × IsAsked given asked
 
--- the words are those of a command, and what they give is wrong in this way
+-- the words are those of `scan`, and what they give is wrong in this way
 abbrev pub GiveWrong : List (List ℕ) → (Given → Type 0) → Type 0
 GiveWrong words IsBad = (given : Given) × GiveScan words given × IsBad given
 
 -- the words ask for nothing: they aren't those of a command, or what they give is wrong
 abbrev pub AskWrongly : List (List ℕ) → BadWords → Type 0
-AskWrongly words Usage = (given : Given) → GiveScan words given → ⊥
+AskWrongly words Usage = call_of words ≡ None
 AskWrongly words BadFilter = GiveWrong words (λ given. LacksFilter given.filter)
 AskWrongly words BadOrder = GiveWrong words (λ given. HasUnsuited given.filter)
 AskWrongly words BadPath = GiveWrong words (λ given. IsFiltered given × LacksPath given.paths)

@@ -6,8 +6,8 @@ ghost use Rattle.outside.specs.Memory.{source_device, sink_device};
 ghost use Rattle.json_tree.specs.Json.{Json};
 ghost use Rattle.json_documents.specs.Documents.{at_end, HasDocuments};
 ghost use Rattle.json_documents.specs.Input.{IsWithinLimit};
-ghost use Rattle.query_tree.specs.Asked.{Asked};
-ghost use Rattle.variant_store.specs.Words.{AskScan};
+ghost use Rattle.variant_store.specs.Command.{prints, AskFor};
+ghost use Rattle.variant_store.specs.Stream.{Stream};
 ghost use Rattle.variant_store.specs.World.{world_of};
 ghost use Rattle.variant_store.specs.Top.{IsAnswer};
 ghost use Rattle.variant_store.specs.InMemory.{Prints, StopsAtLine, StopsAtLimit};
@@ -25,12 +25,12 @@ pub fn vstore_in_memory(
     err: &mut MemSink,
 ) -> u8
     ensures answer { IsAnswer words.now (world_of (source_device input.old) (sink_device out.old)) (world_of (source_device input.new) (sink_device out.new)) (sink_device err.old) (sink_device err.new) result }
-    ensures prints { result ≡ 0 → (asked : Asked) × AskScan words.now asked × Prints asked input.old at_end out.old out.new }
+    ensures prints { result ≡ 0 → (stream : Stream) × AskFor words.now (prints stream) × Prints stream input.old at_end out.old out.new }
     ensures read_whole { result ≡ 0 → input.new.left ≡ [] }
     ensures quiet { result ≡ 0 → err.new.written ≡ err.old.written }
     ensures bounded { IsWithinLimit input.old.left (Some input.new.left) }
-    ensures refused { result ≡ 3 → (asked : Asked) × AskScan words.now asked × (StopsAtLine asked input.old out.old out.new err.old err.new ⊎ StopsAtLimit asked input.old out.old out.new err.old err.new) }
-    ensures complete { (asked : Asked) (documents : List Json) → AskScan words.now asked → HasDocuments input.old.left documents at_end → (Rose input.old.plan.faults input.new.plan.faults → ⊥) → (Rose out.old.plan.faults out.new.plan.faults → ⊥) → (result ≡ 0) ⊎ (result ≡ 7) }
+    ensures refused { result ≡ 3 → (stream : Stream) × AskFor words.now (prints stream) × (StopsAtLine stream input.old out.old out.new err.old err.new ⊎ StopsAtLimit stream input.old out.old out.new err.old err.new) }
+    ensures complete { (stream : Stream) (documents : List Json) → AskFor words.now (prints stream) → HasDocuments input.old.left documents at_end → (Rose input.old.plan.faults input.new.plan.faults → ⊥) → (Rose out.old.plan.faults out.new.plan.faults → ⊥) → (result ≡ 0) ⊎ (result ≡ 7) }
 {
     vstore(alloc, words, input, out, err)
 }

@@ -6,8 +6,11 @@
 //! | `in_memory` | `vstore_in_memory`: the same over objects in memory, said in bytes |
 //! | `command` | `Command`: what words ask for |
 //! | `words` | what is wrong with words; the query of a filter's text and paths' texts |
-//! | `gatherer` | `Gatherer`: the answer of a query, gathered document by document |
-//! | `scan` | a query's lines over the documents of an input |
+//! | `printer` | `Printer`: what a command prints of each document |
+//! | `query_printer` | for `scan`: the line of a query |
+//! | `variant_printer` | for `variant`: the bytes of a Variant in hex |
+//! | `gatherer` | `Gatherer`: what is printed, gathered document by document |
+//! | `stream` | what is printed of all documents of an input |
 //! | `command_error` | `CommandError`: why a call ends with another status than 0, with its line |
 #![tactic(auto)]
 
@@ -15,8 +18,11 @@ mod command;
 mod command_error;
 mod gatherer;
 mod in_memory;
-mod scan;
+mod printer;
+mod query_printer;
+mod stream;
 mod top;
+mod variant_printer;
 mod words;
 
 pub use in_memory::vstore_in_memory;

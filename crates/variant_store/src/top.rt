@@ -9,9 +9,12 @@ ghost use Rattle.variant_store.specs.declared.command_error.CommandError.TheVari
 
 use crate::command::{Command, asked_command};
 use crate::command_error::{CommandError, stream_end, words_error};
-use crate::scan::scan;
+use crate::query_printer::QueryPrinter;
+use crate::stream::stream;
+use crate::variant_printer::VariantPrinter;
 use outside::{Sink, Source};
 use std::alloc::Global;
+use variant_write::Widths;
 use vs_bytes::Text;
 
 /// A word of a call; the program's own name is none.
@@ -28,7 +31,16 @@ fn run<I: Source, O: Sink>(
     ensures untouched { (bad : BadWords) → result ≡ Err (error.BadWords bad) → (input.new ≡ input.old) × (out.new ≡ out.old) }
 {
     match asked_command(alloc, words) {
-        Ok(Command::Scan(query)) => stream_end(scan(alloc, &query, input, out)),
+        Ok(Command::Scan(query)) => {
+            stream_end(stream(alloc, QueryPrinter { query: &query }, input, out))
+        }
+        Ok(Command::Variant(words)) => {
+            let widths = Widths {
+                offset: words.offset_width,
+                id: words.id_width,
+            };
+            stream_end(stream(alloc, VariantPrinter::new(alloc, widths), input, out))
+        }
         Err(fault) => Err(words_error(fault)),
     }
 }
@@ -38,6 +50,7 @@ fn run<I: Source, O: Sink>(
 /// | Words | What it does |
 /// |---|---|
 /// | `scan [--where FILTER] PATH..` | prints the matches of 1 to 64 paths in each document of the input on which the filter holds |
+/// | `variant [--offset-width N] [--id-width N]` | prints the metadata and the value of each document of the input as a Variant, in hex; its offsets and field ids take at least N bytes each, 1 to 4, or 1 |
 ///
 /// | Status | Line on `err` | Where |
 /// |---|---|---|

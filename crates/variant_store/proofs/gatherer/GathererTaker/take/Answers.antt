@@ -1,14 +1,13 @@
-use Rattle.std.proofs.Common.{refl}
 use Rattle.json_tree.specs.View.{view}
 use Rattle.outside.specs.Output.{output_of}
-use Rattle.variant_store.proofs.Gathering.{takes_row, takes_nothing}
+use Rattle.variant_store.proofs.Gathering.{takes_more, takes_nothing}
 use Rattle.variant_store.proofs.gatherer.GathererTaker.take.Goals as goal
 
 pub returns-in-Ok-clause-takes : goal.returns-in-Ok-clause-takes
 returns-in-Ok-clause-takes g c = λ start first documents took.
-    takes_row start.query c.args.self.now.query c.args.self.now.query (output_of (g.O.Sink.seen first) start.output.pending.items) (output_of (g.O.Sink.seen c.args.out.now) c.args.self.now.output.pending.items)
-    (output_of (g.O.Sink.seen c.flush_piece.new.sink) c.flush_piece.new.self.pending.items) documents (view c.args.document.now) c.print_row.new.into.items c.flush_piece.result took refl c.in-Ok.ensures.ok c.flush_piece.ensures.puts
+    takes_more (g.P.Printer.stream start.printer) (g.P.Printer.stream c.args.self.now.printer) (g.P.Printer.stream c.print.new.self) (output_of (g.O.Sink.seen first) start.output.pending.items) (output_of (g.O.Sink.seen c.args.out.now) c.args.self.now.output.pending.items)
+    (output_of (g.O.Sink.seen c.flush_piece.new.sink) c.flush_piece.new.self.pending.items) documents (view c.args.document.now) c.print.new.into.items c.flush_piece.result took c.in-Ok.ensures.same c.in-Ok.ensures.ok c.flush_piece.ensures.puts
 
 pub returns-in-Err-clause-takes : goal.returns-in-Err-clause-takes
 returns-in-Err-clause-takes g c = λ start first documents took.
-    rw c.in-Err.ensures.err (takes_nothing start.query c.args.self.now.query (output_of (g.O.Sink.seen first) start.output.pending.items) (output_of (g.O.Sink.seen c.args.out.now) c.args.self.now.output.pending.items) documents (view c.args.document.now) took)
+    rw c.in-Err.ensures.err (takes_nothing (g.P.Printer.stream start.printer) (g.P.Printer.stream c.args.self.now.printer) (output_of (g.O.Sink.seen first) start.output.pending.items) (output_of (g.O.Sink.seen c.args.out.now) c.args.self.now.output.pending.items) documents (view c.args.document.now) took)

@@ -1,6 +1,5 @@
--- Lemmas on how a scan ends.
+-- Lemmas on how a command ends that prints something of each document.
 use Rattle.std.proofs.Common.{◌≡◌, ◌≤◌, ℕ, List, [], ◌++◌, sym, subst, Option, Err, append-nil, arith}
-use Rattle.std.specs.Borrow.{Bor}
 use Rattle.outside.specs.Devices.{Device, IsCalm, AppendsPrefix}
 use Rattle.outside.specs.Output.{Output, Breaks}
 use Rattle.outside.specs.declared.sink.SinkError.{SinkError}
@@ -12,11 +11,10 @@ use Rattle.json_documents.specs.Taking.{TookAll}
 use Rattle.json_documents.specs.declared.faults.InputFault.{InputFault}
 use Rattle.json_documents.specs.declared.faults.InputFault.TheVariants as why
 use Rattle.json_documents.specs.declared.faults.Stop.TheVariants.{Taker}
-use Rattle.query_tree.specs.Asked.{query_of}
-use Rattle.query_tree.specs.declared.query.Query.{Query}
 use Rattle.variant_store.specs.Answer.{answer_over}
 use Rattle.variant_store.specs.Gathering.{Gathers}
-use Rattle.variant_store.specs.Scan.{AnswersPart, Scans}
+use Rattle.variant_store.specs.Stream.{Stream}
+use Rattle.variant_store.specs.Streaming.{AnswersPart, Streams}
 use Rattle.variant_store.specs.World.{world_of}
 
 -- what is given of an input are first documents of it
@@ -43,12 +41,12 @@ faulted_later i j why.ReadFault fails = fails.later
 faulted_later i j why.NoMemory calm = calm_later i j calm
 
 -- a prefix of what was gathered is written
-pub scan_cut : (query query_now : Bor Query) (i j : Device) (a b c : Output) (fault : SinkError) (AreOf : List ℕ → List Json → Type 0) → a.pending ≡ [] → TookAll (λ ds. Gathers query query_now a b ds) i.bytes AreOf
-    → ((input : List ℕ) (ds : List Json) → AreOf input ds → Begins input ds) → Breaks b c [] fault → i.faults ≤ j.faults → Scans (query_of query.now) (world_of i a.device) (world_of j c.device) (Err (Taker fault))
-scan_cut query query_now i j a b c fault AreOf empty took begins broken later =
-    let answer = answer_over (query_of query.now) took.documents in
+pub stream_cut : (stream stream_now : Stream) (i j : Device) (a b c : Output) (fault : SinkError) (AreOf : List ℕ → List Json → Type 0) → a.pending ≡ [] → TookAll (λ ds. Gathers stream stream_now a b ds) i.bytes AreOf
+    → ((input : List ℕ) (ds : List Json) → AreOf input ds → Begins input ds) → Breaks b c [] fault → i.faults ≤ j.faults → Streams stream (world_of i a.device) (world_of j c.device) (Err (Taker fault))
+stream_cut stream stream_now i j a b c fault AreOf empty took begins broken later =
+    let answer = answer_over stream took.documents in
     let part : Breaks a c (answer ++ []) fault = sends_breaks a b c answer [] fault took.took.sends broken in
-    let answers_part : AnswersPart (query_of query.now) (world_of i a.device) (world_of j c.device) = record {
+    let answers_part : AnswersPart stream (world_of i a.device) (world_of j c.device) = record {
       documents = took.documents;
       are_first = λ input known. begins input took.documents (took.known input known);
       answers = subst (λ (s : List ℕ). AppendsPrefix a.device.bytes c.device.bytes s) (append-nil answer) (subst (λ (p : List ℕ). AppendsPrefix a.device.bytes c.device.bytes (p ++ (answer ++ []))) empty part.part);
