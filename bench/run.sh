@@ -1,6 +1,6 @@
 #!/usr/bin/env bash
-# Times `vstore scan` on generated JSON lines, beside jq where it is installed, and counts instructions
-# per byte where valgrind is. Prints a table in Markdown.
+# Times `vstore scan` on generated JSON lines, beside jq where it is installed, and `vstore variant`, and counts
+# instructions per byte where valgrind is. Prints a table in Markdown.
 #
 # usage: bench/run.sh PROGRAM [MEGABYTES..]
 set -eu
@@ -53,6 +53,20 @@ row records 'select(.amount > 990) | .id' --where '$.amount > 990' '$.id'
 row records 'select(.amount > 99000) | .id' --where '$.amount > 99000' '$.id'
 row records '.tags[0], .user.age, .ts' '$.tags[0]' '$.user.age' '$.ts'
 
+# whole documents: as text, and as Variants in hex
+echo
+echo "| input | words | MB | vstore s | MB/s | peak MB |"
+echo "|---|---|---|---|---|---|"
+for shape in numbers records; do
+    for size in $sizes; do
+        python3 "$here/generate.py" "$shape" $((size * 1000000)) > "$work/in"
+        for words in 'scan $' variant; do
+            read -r ours memory < <(timed "$program" $words)
+            python3 -c "print(f'| $shape | \`$words\` | $size | {$ours:.2f} | {$size / max($ours, 0.01):.0f} | {$memory / 1000:.1f} |')"
+        done
+    done
+done
+
 if command -v jq > /dev/null; then
     echo
     echo "| line | vstore | jq |"
@@ -77,7 +91,8 @@ if command -v valgrind > /dev/null; then
     echo
     echo "| input | bytes | instructions per byte |"
     echo "|---|---|---|"
-    count() { valgrind --tool=callgrind --callgrind-out-file=/dev/null "$program" scan "$@" < "$work/in" 2>&1 > /dev/null | awk '/Collected/ {print $4}'; }
+    collected() { valgrind --tool=callgrind --callgrind-out-file=/dev/null "$program" "$@" < "$work/in" 2>&1 > /dev/null | awk '/Collected/ {print $4}'; }
+    count() { collected scan "$@"; }
     : > "$work/in"
     start=$(count '$.a')
     counted() {
@@ -92,6 +107,14 @@ if command -v valgrind > /dev/null; then
     counted records --where '$.amount > 990' '$.id'
     counted records --where '$.amount > 99000' '$.id'
     counted records --where '$.tags[*] = "b" and not $.user.age < 30' '$.id' '$.user'
+    # whole documents: as text, and as Variants in hex
+    for shape in numbers records; do
+        python3 "$here/generate.py" "$shape" 1000000 > "$work/in"
+        bytes=$(stat -c %s "$work/in")
+        for words in 'scan $' variant; do
+            echo "| $shape, \`$words\` | $bytes | $(( ($(collected $words) - start) / bytes )) |"
+        done
+    done
     # one line of growing size: an array of objects, and an object of many members in no order
     for shape in long wide; do
         for size in 125000 250000 500000 1000000; do
