@@ -3,7 +3,6 @@
 ghost use Rattle.std.specs.Prelude.{◌≡◌, ◌≤◌, ◌++◌, length, OnOk, OnErr};
 ghost use Rattle.vs_bytes.specs.Hex.{hex_of};
 ghost use Rattle.vs_bytes.specs.Outcome.{Grows};
-ghost use Rattle.json_tree.specs.Json.{depth_of};
 ghost use Rattle.json_tree.specs.Text.{text_of};
 ghost use Rattle.json_tree.specs.View.{view};
 ghost use Rattle.variant_meta.specs.Written.{coded_names};
@@ -67,7 +66,6 @@ fn append_value(
     widths: Widths,
 ) -> Result<(), NoMemory>
     requires names { HasNames dict.now (view document.now) }
-    requires depth { depth_of (view document.now) ≤ 64 }
     requires small { length (text_of (view document.now)) ≤ max_text_len }
     requires widths { IsWidths widths }
     ensures ok { OnOk result (into.new.items ≡ into.old.items ++ hex_of (coded dict.now (view document.now) widths)) }
@@ -86,7 +84,6 @@ fn append_line(
     widths: Widths,
 ) -> Result<(), NoMemory>
     requires names { HasNames dict.now (view document.now) }
-    requires depth { depth_of (view document.now) ≤ 64 }
     requires small { length (text_of (view document.now)) ≤ max_text_len }
     requires widths { IsWidths widths }
     ensures ok { OnOk result (into.new.items ≡ into.old.items ++ variant_text dict.now widths (view document.now)) }
