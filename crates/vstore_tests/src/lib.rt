@@ -6,6 +6,7 @@
 //! |---|---|
 //! | `rows` | lines, values and faults: what is printed for an input |
 //! | `limits` | the depth of a line, its length, output of many pieces |
+//! | `variants` | the bytes of documents as Variants |
 //! | `devices` | each read and each write failing in turn, and sources and sinks in pieces |
 #![tactic(auto)]
 
@@ -15,3 +16,5 @@ mod devices;
 mod limits;
 #[cfg(test)]
 mod rows;
+#[cfg(test)]
+mod variants;
