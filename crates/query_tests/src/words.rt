@@ -24,7 +24,7 @@ fn words_may_stand_in_any_order_up_to_two_dashes(rt: HostRuntime) -> Result<(), 
 
 #[test]
 fn words_of_no_command_are_usage(rt: HostRuntime) -> Result<(), Fail> {
-    let rows: [&[&str]; 29] = [
+    let rows: [&[&str]; 27] = [
         &[],
         &[""],
         &["", "$.a"],
@@ -32,8 +32,6 @@ fn words_of_no_command_are_usage(rt: HostRuntime) -> Result<(), Fail> {
         &["scan ", "$.a"],
         &["--where", "$ exists", "scan", "$"],
         &["query", "f"],
-        &["variant"],
-        &["variant", "--"],
         &["load", "f"],
         &["scan"],
         &["scan", "--"],
@@ -54,6 +52,58 @@ fn words_of_no_command_are_usage(rt: HostRuntime) -> Result<(), Fail> {
         &["scan", "--wher", "$ exists", "$"],
         &["scan", "--wheres=$ exists", "$"],
         &["scan", "--where\u{a0}", "$"],
+    ];
+    for words in rows {
+        check(rt.alloc(), words, b"01", 2, b"", b"vstore: usage\n")?;
+    }
+    Ok(())
+}
+
+// A row: words. Each prints an empty array in the same bytes.
+#[test]
+fn the_widths_of_variant_are_1_where_none_is_given(rt: HostRuntime) -> Result<(), Fail> {
+    let rows: [&[&str]; 6] = [
+        &["variant"],
+        &["variant", "--"],
+        &["variant", "--offset-width", "1"],
+        &["variant", "--id-width=1", "--"],
+        &["variant", "--id-width=4"],
+        &["variant", "--id-width", "4", "--offset-width=1"],
+    ];
+    for words in rows {
+        check(rt.alloc(), words, b"[]", 0, b"110000 030000\n", b"")?;
+    }
+    Ok(())
+}
+
+#[test]
+fn words_that_are_no_widths_are_usage(rt: HostRuntime) -> Result<(), Fail> {
+    let rows: [&[&str]; 25] = [
+        &["Variant"],
+        &["variant", "x"],
+        &["variant", "-"],
+        &["variant", ""],
+        &["variant", "--", "x"],
+        &["variant", "--", "--id-width=1"],
+        &["variant", "-x"],
+        &["variant", "--width=1"],
+        &["variant", "--offset-widths=1"],
+        &["variant", "--offset-width"],
+        &["variant", "--offset-width", "--id-width", "1"],
+        &["variant", "--offset-width", "--"],
+        &["variant", "--id-width", "0"],
+        &["variant", "--id-width", "5"],
+        &["variant", "--id-width", "01"],
+        &["variant", "--id-width", "10"],
+        &["variant", "--id-width", "00000000001"],
+        &["variant", "--id-width", ""],
+        &["variant", "--id-width="],
+        &["variant", "--id-width", "-1"],
+        &["variant", "--offset-width=+1"],
+        &["variant", "--offset-width=1", "--offset-width", "1"],
+        &["variant", "--id-width=1", "--id-width=2"],
+        &["variant", "--where", "$ exists"],
+        &["scan", "--id-width=1", "$"],
     ];
     for words in rows {
         check(rt.alloc(), words, b"01", 2, b"", b"vstore: usage\n")?;
