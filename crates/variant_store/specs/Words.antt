@@ -8,7 +8,7 @@ use Rattle.query_tree.specs.PathText.{path_text}
 use Rattle.query_tree.specs.declared.step.Step.{Step}
 use Rattle.path_parsing.specs.Grammar.{IsPath}
 use Rattle.filter_parsing.specs.Grammar.{IsFilter}
-use Rattle.variant_store.specs.Call.{Call, call_of}
+use Rattle.variant_store.specs.Call.{call_of}
 use Rattle.variant_store.specs.Call as call
 use Rattle.variant_store.specs.declared.words.BadWords.{BadWords}
 use Rattle.variant_store.specs.declared.words.BadWords.TheVariants.{Usage, BadFilter, BadOrder, BadPath, RepeatedPath}
