@@ -4,8 +4,11 @@
 //! |---|---|
 //! | `numbers` | numbers of a width, integers in two's complement, bytes in hexadecimal |
 //! | `metadata` | dictionaries, and metadata read in place |
+//! | `cells` | what cells of any bytes mean, and the rules that they violate |
 #![tactic(auto)]
 
+#[cfg(test)]
+mod cells;
 #[cfg(test)]
 mod metadata;
 #[cfg(test)]
