@@ -1,5 +1,6 @@
 pub mod Growing
 pub mod Numbers
+pub mod PackedNumbers
 pub mod Parts
 pub mod Refusals
 pub mod Utf8

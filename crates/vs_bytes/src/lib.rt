@@ -12,6 +12,7 @@
 //! | `utf8_text` | `Text`: UTF-8 text, seen as its bytes and ordered by them; `is_utf8`: whether bytes are UTF-8 |
 //! | `byte_list` | `Bytes`: owned bytes, seen as their list |
 //! | `sequence` | `Sequence`: items in order, seen as their list |
+//! | `leaf_columns` | `Phys`, `Prim`, `Leaf`: leaf columns; `Cell`, `Entry`: what they hold; lists of both |
 //! | `slices` | `cut`, `part`, `rest`: parts of a byte slice |
 //! | `little_endian` | `Le`, `number_at`, `append_number`: numbers of 1 to 4 bytes; `width_of`: how many a number needs |
 //! | `hex_digits` | `hex`: bytes in hex digits |
@@ -19,6 +20,7 @@
 
 mod byte_list;
 mod hex_digits;
+mod leaf_columns;
 mod little_endian;
 mod memory;
 mod refused;
@@ -29,6 +31,7 @@ mod utf8_text;
 
 pub use byte_list::Bytes;
 pub use hex_digits::hex;
+pub use leaf_columns::{Cell, Cells, Entry, EntryList, Leaf, Phys, PrimKind as Prim};
 pub use little_endian::{Le, append_number, number_at, width_of};
 pub use memory::NoMemory;
 pub use refused::{Absent, Refusal, Refused};
