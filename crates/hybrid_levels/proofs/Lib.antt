@@ -1,0 +1,4 @@
+pub mod Ahead
+pub mod Samples
+pub mod Unpacked
+pub mod Varints

@@ -1,0 +1,15 @@
+//! The RLE/bit-packing hybrid (Encodings.md, "Run Length Encoding / Bit-Packing Hybrid"), which holds levels
+//! and dictionary indices.
+//!
+//! | Module | What it holds |
+//! |---|---|
+//! | `headers` | the header of a part |
+//! | `unpacking` | groups of packed numbers |
+//! | `decoding` | `decode`: numbers from the front of bytes |
+#![tactic(auto)]
+
+mod decoding;
+mod headers;
+mod unpacking;
+
+pub use decoding::decode;
