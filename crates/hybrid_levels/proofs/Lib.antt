@@ -1,4 +1,6 @@
 pub mod Ahead
+pub mod Packed
+pub mod Pieces
 pub mod Samples
 pub mod Unpacked
 pub mod Varints

@@ -2,6 +2,7 @@
 use Rattle.std.proofs.Common.{◌≡◌, refl, [], ◌∷◌, Ok, Err}
 use Rattle.vs_bytes.specs.declared.rule.Rule.TheVariants.{RunShort, RunTooLong}
 use Rattle.hybrid_levels.specs.Hybrid.{header, front_part, decoded}
+use Rattle.hybrid_levels.specs.Written.{run, group, stretch, piece, piece_count, encoded}
 
 -- 14 01: ten copies of 1
 ten_ones : decoded 1 10 (0x14 ∷ 0x01 ∷ []) ≡ Ok (1 ∷ 1 ∷ 1 ∷ 1 ∷ 1 ∷ 1 ∷ 1 ∷ 1 ∷ 1 ∷ 1 ∷ [], 2)
@@ -44,3 +45,20 @@ header_cut = refl
 no_copies : decoded 1 1 (0x00 ∷ 0x01 ∷ 0x02 ∷ 0x01 ∷ []) ≡ Ok (1 ∷ [], 4)
 unfolding front_part header
 no_copies = refl
+
+ten_ones_written : encoded 1 (1 ∷ 1 ∷ 1 ∷ 1 ∷ 1 ∷ 1 ∷ 1 ∷ 1 ∷ 1 ∷ 1 ∷ []) ≡ 0x14 ∷ 0x01 ∷ []
+unfolding run group stretch piece piece_count
+ten_ones_written = refl
+
+zero_to_seven_written : encoded 3 (0 ∷ 1 ∷ 2 ∷ 3 ∷ 4 ∷ 5 ∷ 6 ∷ 7 ∷ []) ≡ 0x03 ∷ 0x88 ∷ 0xc6 ∷ 0xfa ∷ []
+unfolding run group stretch piece piece_count
+zero_to_seven_written = refl
+
+-- eight equal numbers are a run, seven a group that is filled up with 0
+eight_written : encoded 2 (3 ∷ 3 ∷ 3 ∷ 3 ∷ 3 ∷ 3 ∷ 3 ∷ 3 ∷ []) ≡ 0x10 ∷ 0x03 ∷ []
+unfolding run group stretch piece piece_count
+eight_written = refl
+
+seven_written : encoded 2 (3 ∷ 3 ∷ 3 ∷ 3 ∷ 3 ∷ 3 ∷ 3 ∷ []) ≡ 0x03 ∷ 0xff ∷ 0x3f ∷ []
+unfolding run group stretch piece piece_count
+seven_written = refl

@@ -1,1 +1,2 @@
 pub mod Hybrid
+pub mod Written

@@ -6,10 +6,15 @@
 //! | `headers` | the header of a part |
 //! | `unpacking` | groups of packed numbers |
 //! | `decoding` | `decode`: numbers from the front of bytes |
+//! | `packing` | numbers packed into bytes |
+//! | `encoding` | `encode`: the bytes of numbers |
 #![tactic(auto)]
 
 mod decoding;
+mod encoding;
 mod headers;
+mod packing;
 mod unpacking;
 
 pub use decoding::decode;
+pub use encoding::encode;
