@@ -33,7 +33,7 @@ no_bytes : (width left : ℕ) → front_part width left [] ≡ Err RunShort
 unfolding front_part header
 no_bytes width left = refl
 
-step_parts : (width most left used : ℕ) (bytes xs : List ℕ) → 0 < left → 0 < most → front_part width left bytes ≡ Ok (xs, used) → parts width most left bytes ≡ after xs used (parts width (most - 1) (left - length xs) (drop used bytes))
+pub step_parts : (width most left used : ℕ) (bytes xs : List ℕ) → 0 < left → 0 < most → front_part width left bytes ≡ Ok (xs, used) → parts width most left bytes ≡ after xs used (parts width (most - 1) (left - length xs) (drop used bytes))
 step_parts width zero left used bytes xs some more is = absurd (omega (arith, more))
 step_parts width (suc most) zero used bytes xs some more is = absurd (omega (arith, some))
 step_parts width (suc most) (suc left) used bytes xs some more is =

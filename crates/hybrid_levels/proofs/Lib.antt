@@ -1,6 +1,7 @@
 pub mod Ahead
 pub mod Packed
 pub mod Pieces
+pub mod ReadBack
 pub mod Samples
 pub mod Unpacked
 pub mod Varints

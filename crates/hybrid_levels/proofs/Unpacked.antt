@@ -124,7 +124,7 @@ bytes_on width len filled count at size some is there =
 pub part_len : {X : Type 0} → (filled count : ℕ) (xs : List X) → filled + count ≤ length xs → length (take (filled + count - filled) (drop filled xs)) ≡ count
 part_len filled count xs h = simp (length-take, length-drop) (omega (arith, h))
 
-take_few : (width len count n : ℕ) → take len (unpacked width count n) ≡ unpacked width (min count len) n
+pub take_few : (width len count n : ℕ) → take len (unpacked width count n) ≡ unpacked width (min count len) n
 take_few width len count n = by (cases_lt len count)
   where
     by : (len < count) ⊎ (count ≤ len) → take len (unpacked width count n) ≡ unpacked width (min count len) n

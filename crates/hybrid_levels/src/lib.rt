@@ -8,13 +8,16 @@
 //! | `decoding` | `decode`: numbers from the front of bytes |
 //! | `packing` | numbers packed into bytes |
 //! | `encoding` | `encode`: the bytes of numbers |
+//! | `laws` | what is written decodes to its numbers |
 #![tactic(auto)]
 
 mod decoding;
 mod encoding;
 mod headers;
+mod laws;
 mod packing;
 mod unpacking;
 
 pub use decoding::decode;
 pub use encoding::encode;
+pub use laws::written_numbers_read_back;
