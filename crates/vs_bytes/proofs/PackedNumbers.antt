@@ -1,6 +1,6 @@
 -- Numbers packed into one number: parts of them, and back.
 use Rattle.std.proofs.Common.{◌≡◌, ◌∙◌, refl, sym, ap, ℕ, zero, suc, ◌+◌, ◌-◌, ◌*◌, ◌/◌, ◌%◌, ◌^◌, ◌<◌, ◌≤◌, List, [], ◌∷◌, ◌++◌, length, take, drop, slice_index, arith}
-use Rattle.std.proofs.Math.Nat.{mul-suc, mul_comm, div-one, mod-one, zero-div, zero-mod, add-mul-mod_self_left, add-mul-div_left, div-eq_of_lt, mod-eq_of_lt}
+use Rattle.std.proofs.Math.Nat.{div-add-mod, mul-suc, mul_comm, div-one, mod-one, zero-div, zero-mod, add-mul-mod_self_left, add-mul-div_left, div-eq_of_lt, mod-eq_of_lt}
 use Rattle.std.proofs.Math.Pow.{mod-mod-pow}
 use Rattle.std.proofs.lemmas.Nat.{pow_pos, shr-shr, field_of, mod-pow-add}
 use Rattle.byteorder.specs.Endian.{little_from, little_number}
@@ -109,3 +109,29 @@ pub little_front : (n : ℕ) (bytes : List ℕ) → little_number n bytes ≡ li
 little_front zero bytes = refl
 little_front (suc n) [] = none_from 0 (suc n)
 little_front (suc n) (byte ∷ bytes) = ap (λ (x : ℕ). byte + 256 * x) (little_from-cons 0 n byte bytes ∙ little_front n bytes)
+
+-- Fields of bits.
+
+-- numbers that agree in the low m bits agree in fewer
+pub fewer_bits : (a m n : ℕ) → n ≤ m → a % 2 ^ m % 2 ^ n ≡ a % 2 ^ n
+fewer_bits a m n h =
+    let parts : m ≡ (m - n) + n = omega (arith, h) in
+    ap (λ (x : ℕ). a % 2 ^ x % 2 ^ n) parts ∙ mod-mod-pow a (m - n) n
+
+-- a field within the low m bits
+pub same_field : (a b m place width : ℕ) → a % 2 ^ m ≡ b % 2 ^ m → place + width ≤ m → a / 2 ^ place % 2 ^ width ≡ b / 2 ^ place % 2 ^ width
+same_field a b m place width same h = sym (one_side a) ∙ ap (λ (x : ℕ). x / 2 ^ place % 2 ^ width) same ∙ one_side b
+  where
+    one_side : (n : ℕ) → n % 2 ^ m / 2 ^ place % 2 ^ width ≡ n / 2 ^ place % 2 ^ width
+    one_side n =
+        let parts : m ≡ (m - place) + place = omega (arith, h) in
+        ap (λ (x : ℕ). n % 2 ^ x / 2 ^ place % 2 ^ width) parts
+        ∙ ap (λ (x : ℕ). x % 2 ^ width) (field_of n (m - place) place)
+        ∙ fewer_bits (n / 2 ^ place) (m - place) width (omega (arith, h))
+
+-- a place in the bytes
+pub place_is : (bytes : List ℕ) (place width : ℕ) → ((i : ℕ) → slice_index bytes i < 256) → little (drop (place / 8) bytes) / 2 ^ (place % 8) % 2 ^ width ≡ little bytes / 2 ^ place % 2 ^ width
+place_is bytes place width small =
+    ap (λ (x : ℕ). x / 2 ^ (place % 8) % 2 ^ width) (sym (packed_high 8 (place / 8) bytes small))
+    ∙ ap (λ (x : ℕ). x % 2 ^ width) (shr-shr (little bytes) (8 * (place / 8)) (place % 8))
+    ∙ ap (λ (x : ℕ). little bytes / 2 ^ x % 2 ^ width) (div-add-mod place 8)
