@@ -1,39 +1,21 @@
 -- Groups of packed numbers.
 use Rattle.std.proofs.Common.{◌≡◌, ◌∙◌, refl, sym, ap, subst, ℕ, suc, ◌+◌, ◌-◌, ◌*◌, ◌/◌, ◌%◌, ◌^◌, ◌<◌, ◌≤◌, List, [], ◌∷◌, ◌++◌, length, take, drop, slice_index, set, bit_and, min, ◌⊎◌, inl, inr, arith, lit<}
-use Rattle.std.proofs.Math.Nat.{mod-lt, mul_comm, suc-mul, mul-le-mul_right, pow-le-pow_right, div-add-mod}
+use Rattle.std.proofs.Math.Nat.{mod-lt, mul_comm, suc-mul, mul-le-mul_right, pow-le-pow_right}
 use Rattle.std.proofs.Math.Seq.{take-append-add}
 use Rattle.std.proofs.lemmas.Bool.{cases_lt, ne_eqb}
 use Rattle.std.proofs.lemmas.Slice.{take-put_mid}
 use borrow.Rule.Slice.PartMut.{put_mid}
 use Rattle.std.proofs.lemmas.List.{take_more_set, take_all, append_assoc, append-nil, get_or-drop, drop-drop, length-take, length-drop, length-take-le, take_at, take-append-le}
-use Rattle.std.proofs.Math.Pow.{mod-mod-pow}
-use Rattle.std.proofs.lemmas.Nat.{pow_pos, field_of, shr-shr, and_mask, one_shl}
+use Rattle.std.proofs.lemmas.Nat.{pow_pos, and_mask, one_shl}
 use Rattle.byteorder.specs.Endian.{little_number}
 use Rattle.vs_bytes.specs.PackedNumbers.{unpacked, little}
 use Rattle.hybrid_levels.specs.Hybrid.{content_count, content_numbers}
-use Rattle.vs_bytes.proofs.PackedNumbers.{unpacked_len, unpacked_low, unpacked_split, take_unpacked, packed_low, packed_high, little_front}
-
--- numbers that agree in the low m bits agree in fewer
-pub fewer_bits : (a m n : ℕ) → n ≤ m → a % 2 ^ m % 2 ^ n ≡ a % 2 ^ n
-fewer_bits a m n h =
-    let parts : m ≡ (m - n) + n = omega (arith, h) in
-    ap (λ (x : ℕ). a % 2 ^ x % 2 ^ n) parts ∙ mod-mod-pow a (m - n) n
+use Rattle.vs_bytes.proofs.PackedNumbers.{fewer_bits, unpacked_len, unpacked_low, unpacked_split, take_unpacked, packed_low, packed_high, little_front}
 
 -- the number in the first k bytes or more
 pub front_low : (bytes : List ℕ) (k size : ℕ) → ((i : ℕ) → slice_index bytes i < 256) → size ≤ k → little_number k bytes % 2 ^ (8 * size) ≡ little bytes % 2 ^ (8 * size)
 front_low bytes k size small h =
     ap (λ (x : ℕ). x % 2 ^ (8 * size)) (little_front k bytes ∙ sym (packed_low 8 k bytes small)) ∙ fewer_bits (little bytes) (8 * k) (8 * size) (omega (arith, h))
-
--- a field within the low m bits
-pub same_field : (a b m place width : ℕ) → a % 2 ^ m ≡ b % 2 ^ m → place + width ≤ m → a / 2 ^ place % 2 ^ width ≡ b / 2 ^ place % 2 ^ width
-same_field a b m place width same h = sym (one_side a) ∙ ap (λ (x : ℕ). x / 2 ^ place % 2 ^ width) same ∙ one_side b
-  where
-    one_side : (n : ℕ) → n % 2 ^ m / 2 ^ place % 2 ^ width ≡ n / 2 ^ place % 2 ^ width
-    one_side n =
-        let parts : m ≡ (m - place) + place = omega (arith, h) in
-        ap (λ (x : ℕ). n % 2 ^ x / 2 ^ place % 2 ^ width) parts
-        ∙ ap (λ (x : ℕ). x % 2 ^ width) (field_of n (m - place) place)
-        ∙ fewer_bits (n / 2 ^ place) (m - place) width (omega (arith, h))
 
 -- a field is below 2 ^ 32
 pub low_small : (n width : ℕ) → width ≤ 32 → n % 2 ^ width < 4294967296
@@ -44,13 +26,6 @@ low_small n width h =
 
 pub mask_is : (n width : ℕ) → width ≤ 32 → bit_and n (1 * 2 ^ width % 18446744073709551616 - 1) ≡ n % 2 ^ width
 mask_is n width h = ap (λ (x : ℕ). bit_and n (x - 1)) (one_shl width 64 (omega (arith, h))) ∙ and_mask n width
-
--- a place in the bytes
-pub place_is : (bytes : List ℕ) (place width : ℕ) → ((i : ℕ) → slice_index bytes i < 256) → little (drop (place / 8) bytes) / 2 ^ (place % 8) % 2 ^ width ≡ little bytes / 2 ^ place % 2 ^ width
-place_is bytes place width small =
-    ap (λ (x : ℕ). x / 2 ^ (place % 8) % 2 ^ width) (sym (packed_high 8 (place / 8) bytes small))
-    ∙ ap (λ (x : ℕ). x % 2 ^ width) (shr-shr (little bytes) (8 * (place / 8)) (place % 8))
-    ∙ ap (λ (x : ℕ). little bytes / 2 ^ x % 2 ^ width) (div-add-mod place 8)
 
 -- one more number, in a loop over `xs`
 pub taken_on : (width len i left word n : ℕ) (xs : List ℕ) → take i xs ++ unpacked width (len - i) left ≡ unpacked width len word → i < len → length xs ≡ len → n ≡ left % 2 ^ width → take (i + 1) (set xs i n) ++ unpacked width (len - (i + 1)) (left / 2 ^ width) ≡ unpacked width len word

@@ -1,6 +1,7 @@
 use Rattle.std.proofs.Common.{◌≡◌, ◌∙◌, ap, List, ℕ, ◌*◌, ◌/◌, ◌%◌, ◌^◌, drop, arith}
 use Rattle.vs_bytes.specs.PackedNumbers.{little}
-use Rattle.hybrid_levels.proofs.Unpacked.{mask_is, place_is, same_field}
+use Rattle.vs_bytes.proofs.PackedNumbers.{same_field, place_is}
+use Rattle.hybrid_levels.proofs.Unpacked.{mask_is}
 use Rattle.hybrid_levels.proofs.unpacking.field.Goals as goal
 
 pub returns : goal.returns
