@@ -1,0 +1,43 @@
+//! The cells at the front of bytes.
+
+ghost use Rattle.std.specs.Prelude.{◌≡◌};
+ghost use Rattle.vs_bytes.specs.Outcome.{Makes};
+ghost use Rattle.plain_values.specs.Plain.{front_cell, cells, plain_cells};
+
+use crate::booleans::booleans;
+use crate::cell_reading::front_cell;
+use std::alloc::Global;
+use vs_bytes::{Cells, Leaf, Phys, Refusal, Refused, rest};
+
+// Cells that are read one by one.
+fn cells(alloc: Global, leaf: &Leaf, count: usize, bytes: &[u8]) -> Result<Cells, Refusal>
+    ensures { Makes (λ cells. cells) result (cells (front_cell leaf.now.phys leaf.now.prim) count bytes.now) }
+{
+    let mut found = Cells::new(alloc);
+    let mut at = 0;
+    for _i in 0..count {
+        match front_cell(alloc, leaf, rest(bytes, at)) {
+            Ok((cell, used)) => {
+                match found.push(cell) {
+                    Ok(()) => at += used,
+                    Err(_) => return Err(Refused::NoMemory),
+                }
+            }
+            Err(refusal) => return Err(refusal),
+        }
+    }
+    Ok(found)
+}
+
+/// `count` cells of a leaf column from the front of `bytes`. Bytes after them are passed over.
+///
+/// `PlainShort`: the bytes end before the last cell does. `DecimalDigits`: a decimal in bytes has none, more than
+/// 16, or more than 38 digits. `TextUtf8`: a text isn't UTF-8. A cell is judged whole before the next one.
+pub fn decode(alloc: Global, leaf: &Leaf, count: usize, bytes: &[u8]) -> Result<Cells, Refusal>
+    ensures { Makes (λ cells. cells) result (plain_cells leaf.now.phys leaf.now.prim count bytes.now) }
+{
+    match leaf.phys {
+        Phys::Boolean => booleans(alloc, count, bytes),
+        _ => cells(alloc, leaf, count, bytes),
+    }
+}
