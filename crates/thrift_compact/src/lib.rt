@@ -1,0 +1,18 @@
+//! The Thrift compact protocol (thrift-compact-protocol.md): structs, lists and numbers, read in place.
+//!
+//! What bytes mean is defined in `specs/`: numbers in `Numbers.antt`, headers in `Headers.antt`, values that are
+//! passed over in `Skipping.antt`. Every reader answers exactly the defined value or `Rule::Thrift`, and takes no
+//! memory. It is stricter than the protocol in this: a size is below 2^32, what is passed over nests 32 deep at
+//! most, and the types are the twelve below. It is laxer in this: a varint may have more bytes than it needs, and
+//! a truth value in a list may be any byte.
+//!
+//! | Module | What it holds |
+//! |---|---|
+//! | `numbers` | varints, signed numbers, binary |
+//! | `headers` | headers of fields, lists and maps |
+//! | `skipping` | the bytes after a value of a type |
+#![tactic(auto)]
+
+mod headers;
+mod numbers;
+mod skipping;
