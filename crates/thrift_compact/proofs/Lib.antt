@@ -1,3 +1,4 @@
+pub mod Ends
 mod Samples
 pub mod Skipped
 pub mod Varints

@@ -11,8 +11,12 @@
 //! | `numbers` | varints, signed numbers, binary |
 //! | `headers` | headers of fields, lists and maps |
 //! | `skipping` | the bytes after a value of a type |
+//! | `reader` | `Reader`: reads one value after the other |
 #![tactic(auto)]
 
 mod headers;
 mod numbers;
+mod reader;
 mod skipping;
+
+pub use reader::Reader;
