@@ -1,4 +1,7 @@
 pub mod Ends
+pub mod ReadBack
 mod Samples
+pub mod SkipsBack
 pub mod Skipped
+pub mod TreesBack
 pub mod Varints

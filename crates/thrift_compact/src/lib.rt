@@ -12,11 +12,14 @@
 //! | `headers` | headers of fields, lists and maps |
 //! | `skipping` | the bytes after a value of a type |
 //! | `reader` | `Reader`: reads one value after the other |
+//! | `laws` | what is written reads back |
 #![tactic(auto)]
 
 mod headers;
+mod laws;
 mod numbers;
 mod reader;
 mod skipping;
 
+pub use laws::{structs_read_back, values_are_passed_over, values_read_back};
 pub use reader::Reader;

@@ -1,0 +1,22 @@
+//! What is written reads back, and is passed over. Each law is a contract of an empty function.
+
+ghost use Rattle.std.specs.Prelude.{◌≡◌, ◌≤◌, ◌++◌, ℕ, List, Ok};
+ghost use Rattle.thrift_compact.specs.Trees.{Value, Fields, Shape, Shapes, at_shape, struct_at, known_at};
+ghost use Rattle.thrift_compact.specs.Skipping.{max_nesting, skipped};
+ghost use Rattle.thrift_compact.specs.Coded.{kind_of, coded, fields_coded, nesting};
+ghost use Rattle.thrift_compact.specs.Fitting.{Fits, FitsField, AllFields};
+
+/// The bytes of a value that a table allows mean this value, whatever bytes follow it.
+pub fn values_read_back()
+    ensures { (s : Shape) (v : Value) (rest : List ℕ) → Fits s v → at_shape s (kind_of v) (coded v ++ rest) ≡ Ok (v, rest) }
+{}
+
+/// The bytes of a struct that a table allows mean its fields, whatever bytes follow its stop.
+pub fn structs_read_back()
+    ensures { (ss : Shapes) (fs : Fields) (rest : List ℕ) → AllFields (FitsField ss) 0 fs → struct_at (known_at ss) (fields_coded 0 fs ++ rest) ≡ Ok (fs, rest) }
+{}
+
+/// `Reader::skip` passes over the bytes of one value, and no others, whatever table allows it.
+pub fn values_are_passed_over()
+    ensures { (s : Shape) (v : Value) (rest : List ℕ) → Fits s v → nesting v ≤ max_nesting → skipped max_nesting (kind_of v) (coded v ++ rest) ≡ Ok rest }
+{}
