@@ -6,3 +6,4 @@ pub mod Numbers
 pub mod Readers
 pub mod Skipping
 pub mod Trees
+pub mod Writers

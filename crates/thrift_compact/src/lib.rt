@@ -15,11 +15,14 @@
 //! | `laws` | what is written reads back |
 #![tactic(auto)]
 
+mod appending;
+mod coding;
 mod headers;
 mod laws;
 mod numbers;
 mod reader;
 mod skipping;
+mod writer;
 
 pub use laws::{structs_read_back, values_are_passed_over, values_read_back};
 pub use reader::Reader;
