@@ -23,3 +23,6 @@ no_digits turn n old h =
 -- a header, a value, and what follows
 pub field_joined : (old head own more : List ℕ) → ((old ++ head) ++ own) ++ more ≡ old ++ (head ++ (own ++ more))
 field_joined old head own more = simp append_assoc
+
+pub joined : (old head own : List ℕ) → (old ++ head) ++ own ≡ old ++ (head ++ own)
+joined old head own = append_assoc old head own

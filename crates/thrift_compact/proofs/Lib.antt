@@ -6,3 +6,4 @@ pub mod SkipsBack
 pub mod Skipped
 pub mod TreesBack
 pub mod Varints
+pub mod Written

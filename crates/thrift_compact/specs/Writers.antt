@@ -1,7 +1,7 @@
 -- What a `Writer` shows: the bytes so far, and the structs that are open.
-use Rattle.std.specs.Prelude.{◌≡◌, ℕ, ◌-◌, Bool, true, not, List, [], ◌∷◌, ◌++◌, ℤ, unsigned_abs}
-use Rattle.thrift_compact.specs.Trees.{Value, Elements, Fields, no_elements, with_element, with_field}
-use Rattle.thrift_compact.specs.Coded.{elements_coded, fields_coded}
+use Rattle.std.specs.Prelude.{◌≡◌, ℕ, ◌-◌, Bool, true, false, not, List, [], ◌∷◌, ◌++◌, ℤ, unsigned_abs, length}
+use Rattle.thrift_compact.specs.Trees.{Value, Elements, Fields, no_elements, with_element, no_fields, with_field, list_value, struct_value}
+use Rattle.thrift_compact.specs.Coded.{elements_coded, fields_coded, how_many}
 use Rattle.thrift_compact.specs.declared.writer.Open.{Open}
 use Rattle.thrift_compact.specs.declared.writer.Writer.{Writer}
 
@@ -70,3 +70,41 @@ pub record WritesElement (old new : Writer) (v : Value) : Type 0 where
   pub left : left_of new ≡ left_of old - 1
   pub outer : outer_of new ≡ outer_of old
   pub open_still : is_open new ≡ true
+
+-- the header of a list: its elements may follow now
+pub record WritesList (old new : Writer) (id : ℤ) (kind size : ℕ) : Type 0 where
+  pub bytes : (vs : Elements) (fs : Fields) (rests : List Rest) → how_many vs ≡ size → finished new vs fs rests ≡ finished old no_elements (with_field id (list_value kind vs) fs) rests
+  pub last : last_of new ≡ unsigned_abs id
+  pub kind_is : kind_left new ≡ kind
+  pub left : left_of new ≡ size
+  pub outer : outer_of new ≡ outer_of old
+  pub open_still : is_open new ≡ true
+
+-- a struct inside, whose fields may follow now
+pub record BeginsField (old new : Writer) (id : ℤ) : Type 0 where
+  pub bytes : (inner fs : Fields) (rests : List Rest) → length rests ≡ length (outer_of old) → finished new no_elements inner (rests ++ (no_elements, fs) ∷ []) ≡ finished old no_elements (with_field id (struct_value inner) fs) rests
+  pub last : last_of new ≡ 0
+  pub left : left_of new ≡ 0
+  pub outer : outer_of new ≡ outer_of old ++ record { last = unsigned_abs id; kind = kind_left old; left = 0 } ∷ []
+  pub open_still : is_open new ≡ true
+
+pub record BeginsElement (old new : Writer) : Type 0 where
+  pub bytes : (inner : Fields) (vs : Elements) (fs : Fields) (rests : List Rest) → length rests ≡ length (outer_of old) → finished new no_elements inner (rests ++ (vs, fs) ∷ []) ≡ finished old (with_element (struct_value inner) vs) fs rests
+  pub last : last_of new ≡ 0
+  pub left : left_of new ≡ 0
+  pub outer : outer_of new ≡ outer_of old ++ record { last = last_of old; kind = kind_left old; left = left_of old - 1 } ∷ []
+  pub open_still : is_open new ≡ true
+
+-- the stop of a struct inside: what follows it may follow now
+pub record EndsInner (old new : Writer) (outer : List Open) (around : Open) : Type 0 where
+  pub bytes : (vs : Elements) (fs : Fields) (rests : List Rest) → length rests ≡ length outer → finished new vs fs rests ≡ finished old no_elements no_fields (rests ++ (vs, fs) ∷ [])
+  pub last : last_of new ≡ around.last
+  pub kind : kind_left new ≡ around.kind
+  pub left : left_of new ≡ around.left
+  pub outer_is : outer_of new ≡ outer
+  pub open_still : is_open new ≡ true
+
+-- the stop of the outer struct: nothing follows it
+pub record EndsOuter (old new : Writer) : Type 0 where
+  pub bytes : bytes_of new ≡ finished old no_elements no_fields []
+  pub closed : is_open new ≡ false

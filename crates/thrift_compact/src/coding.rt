@@ -144,3 +144,26 @@ impl Code for Binary {
         append_binary(into, value.as_slice())
     }
 }
+
+/// A binary in place.
+#[derive(Clone, Copy)]
+pub(crate) struct Part<'a> {
+    pub(crate) part: &'a [u8],
+}
+
+impl<'a> Code for Part<'a> {
+    type Of = Part<'a>;
+
+    ghost tree = { λ p. binary_value p.part.now };
+
+    ghost fits = { λ _. true };
+
+    fn kind(_value: &Part<'a>) -> u8 {
+        8
+    }
+
+    #[tactic(auto, unfolding(crate::specs::Coded::coded))]
+    fn write(into: &mut Vec<u8>, value: &Part<'a>) -> Result<(), NoMemory> {
+        append_binary(into, value.part)
+    }
+}
