@@ -39,7 +39,7 @@ fn cells_of(alloc: Global, tree: &Tree) -> Result<Option<Cells>, NoMemory> {
 
 // The turns differ in the containers around the value, so that no turn can be left out.
 fn views(meta: MetaRef<'_>, bytes: &[u8], turns: u32) -> u32 {
-    let mut refused = 0;
+    let mut refused: u32 = 0;
     for turn in 0..turns {
         if view(meta, bytes, (turn % 2) as u8).is_err() {
             refused = refused.saturating_add(1);
@@ -49,7 +49,7 @@ fn views(meta: MetaRef<'_>, bytes: &[u8], turns: u32) -> u32 {
 }
 
 fn trees(alloc: Global, meta: MetaRef<'_>, bytes: &[u8], turns: u32) -> Result<u32, NoMemory> {
-    let mut refused = 0;
+    let mut refused: u32 = 0;
     for turn in 0..turns {
         match view(meta, bytes, (turn % 2) as u8) {
             Ok(value) => {
