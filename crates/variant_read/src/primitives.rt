@@ -117,18 +117,16 @@ fn string(bytes: &[u8]) -> Result<usize, Rule>
     text(bytes, 5, number_at(bytes, 1, 4) as usize)
 }
 
-// The kinds of type id 7 and above.
+// The kinds of type id 10 and above.
 #[inline(never)]
 #[tactic(auto, unfolding(crate::specs::Primitives::kind_of, crate::specs::Primitives::unread_kind))]
-fn other_kind(bytes: &[u8], id: u8) -> Result<usize, Rule>
-    requires { 7 ≤ id }
+fn rare_kind(bytes: &[u8], id: u8) -> Result<usize, Rule>
+    requires { 10 ≤ id }
     ensures { result ≡ size_in (kind_of id bytes.now) }
 {
     match id {
-        7 | 14 => Err(Rule::FloatLeftOut),
-        8 => small_decimal(bytes, 4),
-        9 => small_decimal(bytes, 8),
         10 => wide_decimal(bytes),
+        14 => Err(Rule::FloatLeftOut),
         16 => string(bytes),
         _ => {
             if id <= LAST_TYPE_ID {
@@ -137,6 +135,21 @@ fn other_kind(bytes: &[u8], id: u8) -> Result<usize, Rule>
                 Err(Rule::TypeId)
             }
         }
+    }
+}
+
+// The kinds of type id 7 and above.
+#[inline(always)]
+#[tactic(auto, unfolding(crate::specs::Primitives::kind_of, crate::specs::Primitives::unread_kind))]
+fn other_kind(bytes: &[u8], id: u8) -> Result<usize, Rule>
+    requires { 7 ≤ id }
+    ensures { result ≡ size_in (kind_of id bytes.now) }
+{
+    match id {
+        7 => Err(Rule::FloatLeftOut),
+        8 => small_decimal(bytes, 4),
+        9 => small_decimal(bytes, 8),
+        _ => rare_kind(bytes, id),
     }
 }
 
