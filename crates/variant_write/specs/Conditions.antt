@@ -1,7 +1,5 @@
 -- What the writers ask of a JSON value, a dictionary and the widths.
-use Rattle.std.specs.Prelude.{◌≡◌, ℕ, ◌≤◌, ◌<◌, true, List, [], ◌∷◌, ◌++◌, length}
-use Rattle.std.specs.Str.{is_utf8}
-use Rattle.exact_num.specs.Decimal.{IsNumber}
+use Rattle.std.specs.Prelude.{◌≡◌, ℕ, ◌≤◌, ◌<◌, List, [], ◌∷◌, ◌++◌, length}
 use Rattle.json_tree.specs.Json.{Json, null, boolean, number, text, array, object, Parts, no_parts, part, Fields, no_fields, field}
 use Rattle.variant_meta.specs.Names.{place_of}
 use Rattle.variant_write.specs.declared.widths.Widths.{Widths}
@@ -46,24 +44,6 @@ abbrev mutual
   pub FieldsHaveNames : List (List ℕ) → Fields → Type 0
   FieldsHaveNames names no_fields = Unit {0}
   FieldsHaveNames names (field name j fields) = HasName names name × HasNames names j × FieldsHaveNames names fields
-
--- each number is in least scale with at most 38 digits, and each text is UTF-8
-abbrev mutual
-  pub IsSound : Json → Type 0
-  IsSound null = Unit {0}
-  IsSound (boolean b) = Unit {0}
-  IsSound (number d) = IsNumber d
-  IsSound (text s) = is_utf8 s ≡ true
-  IsSound (array elements) = AreSound elements
-  IsSound (object fields) = HoldSound fields
-
-  pub AreSound : Parts → Type 0
-  AreSound no_parts = Unit {0}
-  AreSound (part j elements) = IsSound j × AreSound elements
-
-  pub HoldSound : Fields → Type 0
-  HoldSound no_fields = Unit {0}
-  HoldSound (field name j fields) = IsSound j × HoldSound fields
 
 -- the names of all objects in a value
 abbrev mutual
