@@ -12,7 +12,7 @@ ghost use Rattle.variant_write.specs.Coded.{ids_of, coded, values_coded};
 ghost use Rattle.variant_write.specs.Conditions.{IsWidths, HasNames, FieldsHaveNames, max_text_len};
 
 use crate::composing::compose_object;
-use crate::encoding::append;
+use crate::encoding::{ENDS_ROOM, SPARE_ROOM, append};
 use crate::widths::Widths;
 use json_tree::{Members, Tree};
 use variant_meta::Dictionary;
@@ -56,8 +56,8 @@ fn append_chosen(
     ensures ok { OnOk result (into.new.items ≡ into.old.items ++ coded dict.now (object (chosen kept.now (fields_of (map seen pairs.now)))) widths) }
     ensures grows { Grows into.old.items into.new.items }
 {
-    let mut spare = Vec::new(*into.allocator());
-    let mut ends = Vec::new(*into.allocator());
+    let mut spare = Vec::with_capacity(*into.allocator(), SPARE_ROOM)?;
+    let mut ends = Vec::with_capacity(*into.allocator(), ENDS_ROOM)?;
     append_chosen_values(&mut spare, into, &mut ends, dict, pairs, kept, widths)?;
     let middle = ends.len();
     append_chosen_ids(&mut ends, dict, pairs, kept)?;

@@ -12,6 +12,9 @@ use std::alloc::Global;
 use variant_meta::Dictionary;
 use vs_bytes::{NoMemory, Text};
 
+// The room for names that is taken at first: enough for most values, so that it need not grow.
+const ROOM: usize = 16;
+
 /// The names of all objects in a value.
 pub fn dictionary_of(alloc: Global, tree: &Tree) -> Result<Dictionary, NoMemory>
     requires small { length (text_of (view tree.now)) ≤ max_text_len }
@@ -26,7 +29,7 @@ pub fn dictionary_of(alloc: Global, tree: &Tree) -> Result<Dictionary, NoMemory>
 fn all_names(alloc: Global, tree: &Tree) -> Result<Vec<Text>, NoMemory>
     ensures { IfOk result (λ names. names.items ≡ object_names (view tree.now)) }
 {
-    let mut names = Vec::new(alloc);
+    let mut names = Vec::with_capacity(alloc, ROOM)?;
     collect(alloc, &mut names, tree)?;
     Ok(names)
 }

@@ -6,7 +6,7 @@ ghost use Rattle.variant_meta.specs.Written.{numbers};
 ghost use Rattle.variant_write.specs.Conditions.{max_width, RiseTo};
 ghost use Rattle.variant_write.specs.Layout.{count_bytes, head, large_bit, packed};
 
-use vs_bytes::{Le, NoMemory, append_number};
+use vs_bytes::{Le, NoMemory};
 
 // Counts above this one have 4 bytes.
 const MAX_SMALL_COUNT: usize = 255;
@@ -147,9 +147,9 @@ fn append_count(into: &mut Vec<u8>, count: usize) -> Result<(), NoMemory>
     ensures grows { Grows into.old.items into.new.items }
 {
     if count > MAX_SMALL_COUNT {
-        append_number(into, 4, count as u32)
+        Le::<4>::write(into, count as u32)
     } else {
-        append_number(into, 1, count as u32)
+        Le::<1>::write(into, count as u32)
     }
 }
 

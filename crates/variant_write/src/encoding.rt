@@ -18,6 +18,11 @@ use json_tree::Tree;
 use variant_meta::Dictionary;
 use vs_bytes::{NoMemory, Text, rest};
 
+// The room that is taken at first: enough for most values, so that it need not grow.
+pub(crate) const SPARE_ROOM: usize = 256;
+
+pub(crate) const ENDS_ROOM: usize = 64;
+
 /// Appends the bytes of a value. After an `Err` the bytes are as before.
 pub fn encode(
     into: &mut Vec<u8>,
@@ -32,13 +37,28 @@ pub fn encode(
     ensures err { OnErr result (into.new.items ≡ into.old.items) }
 {
     let before = into.len();
-    let mut spare = Vec::new(*into.allocator());
-    let mut ends = Vec::new(*into.allocator());
-    let done = append(into, &mut spare, &mut ends, dict, tree, widths);
+    let done = append_value(into, dict, tree, widths);
     if done.is_err() {
         into.truncate(before);
     }
     done
+}
+
+fn append_value(
+    into: &mut Vec<u8>,
+    dict: &Dictionary,
+    tree: &Tree,
+    widths: Widths,
+) -> Result<(), NoMemory>
+    requires names { HasNames dict.now (view tree.now) }
+    requires small { length (text_of (view tree.now)) ≤ max_text_len }
+    requires widths { IsWidths widths }
+    ensures ok { OnOk result (into.new.items ≡ into.old.items ++ coded dict.now (view tree.now) widths) }
+    ensures grows { Grows into.old.items into.new.items }
+{
+    let mut spare = Vec::with_capacity(*into.allocator(), SPARE_ROOM)?;
+    let mut ends = Vec::with_capacity(*into.allocator(), ENDS_ROOM)?;
+    append(into, &mut spare, &mut ends, dict, tree, widths)
 }
 
 /// The ends from the place `first` on.

@@ -9,7 +9,7 @@ ghost use Rattle.vs_bytes.specs.Outcome.{Grows};
 ghost use Rattle.variant_write.specs.Primitives.{primitive_head, integer_bytes, decimal_bytes, whole_bytes, fraction_bytes, decimal_coded, text_coded};
 
 use exact_num::{Number, Unscaled};
-use vs_bytes::{NoMemory, append_number};
+use vs_bytes::{Le, NoMemory};
 
 // The type ids.
 const NULL: u8 = 0;
@@ -175,7 +175,7 @@ pub(crate) fn append_text(into: &mut Vec<u8>, text: &[u8]) -> Result<(), NoMemor
         into.push(1 + 4 * text.len() as u8)?;
     } else {
         append_head(into, STRING)?;
-        append_number(into, 4, text.len() as u32)?;
+        Le::<4>::write(into, text.len() as u32)?;
     }
     into.extend_from_slice(text)?;
     Ok(())
