@@ -5,6 +5,7 @@
 //! | `numbers` | numbers of a width, integers in two's complement, bytes in hexadecimal |
 //! | `metadata` | dictionaries, and metadata read in place |
 //! | `cells` | what cells of any bytes mean, and the rules that they violate |
+//! | `values` | values, written |
 #![tactic(auto)]
 
 #[cfg(test)]
@@ -13,3 +14,5 @@ mod cells;
 mod metadata;
 #[cfg(test)]
 mod numbers;
+#[cfg(test)]
+mod values;
