@@ -12,6 +12,7 @@ max_text_len = 16777216
 abbrev pub max_width : ℕ
 max_width = 4
 
+-- widths of 1 to 4 bytes
 pub record IsWidths (widths : Widths) : Type 0 where
   pub offset_least : 1 ≤ widths.offset
   pub offset_most : widths.offset ≤ max_width

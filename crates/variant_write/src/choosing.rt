@@ -18,8 +18,8 @@ use json_tree::{Members, Tree};
 use variant_meta::Dictionary;
 use vs_bytes::{NoMemory, Text};
 
-/// Appends the object of some members, those at whose places `kept` says so (VariantEncoding.md, "Value encoding").
-/// After an `Err` the bytes are as before.
+/// Appends the object of some members, those at whose places `kept` says so, in the form of `encode`. Nothing is copied
+/// but what is written. After an `Err` the bytes are as before.
 pub fn encode_members(
     into: &mut Vec<u8>,
     dict: &Dictionary,

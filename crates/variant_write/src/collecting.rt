@@ -15,7 +15,9 @@ use vs_bytes::{NoMemory, Text};
 // The room for names that is taken at first: enough for most values, so that it need not grow.
 const ROOM: usize = 16;
 
-/// The names of all objects in a value.
+/// The dictionary of a value: the names of all its objects, each once, in the order of their bytes.
+///
+/// The canonical text of the value has at most 16,777,216 bytes.
 pub fn dictionary_of(alloc: Global, tree: &Tree) -> Result<Dictionary, NoMemory>
     requires small { length (text_of (view tree.now)) ≤ max_text_len }
     ensures names { IfOk result (λ d. d ≡ dictionary (view tree.now)) }

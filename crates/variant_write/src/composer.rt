@@ -11,7 +11,10 @@ use vs_bytes::{Le, NoMemory};
 // Counts above this one have 4 bytes.
 const MAX_SMALL_COUNT: usize = 255;
 
-/// Writes objects and arrays with offsets of `OW` bytes, and objects with field ids of `IW` bytes.
+/// Writes objects and arrays with offsets of `OW` bytes, and objects with field ids of `IW` bytes, 1 to 4 each.
+///
+/// What lies in them is there already, as bytes: one item after the other. An end says how many bytes the items up to
+/// one have together, so that the last end is the length of all.
 pub struct Composer<const OW: usize, const IW: usize>;
 
 impl<const OW: usize, const IW: usize> Composer<OW, IW> {

@@ -23,7 +23,15 @@ pub(crate) const SPARE_ROOM: usize = 256;
 
 pub(crate) const ENDS_ROOM: usize = 64;
 
-/// Appends the bytes of a value. After an `Err` the bytes are as before.
+/// Appends the bytes of a value (VariantEncoding.md, "Value encoding"). Its objects cite their names by the places
+/// in `dict`.
+///
+/// A whole number takes the narrowest of int8 to int64, or else decimal16; a fraction the narrowest of decimal4 to
+/// decimal16; a text of at most 63 bytes is a short string. The offsets of an array or object have at least
+/// `widths.offset` bytes, the ids at least `widths.id`, and each as many as its greatest number needs. Items lie in
+/// order, without gaps.
+///
+/// The canonical text of the value has at most 16,777,216 bytes. After an `Err` the bytes are as before.
 pub fn encode(
     into: &mut Vec<u8>,
     dict: &Dictionary,
