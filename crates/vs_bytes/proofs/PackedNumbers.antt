@@ -1,8 +1,8 @@
 -- Numbers packed into one number: parts of them, and back.
 use Rattle.std.proofs.Common.{◌≡◌, ◌∙◌, refl, sym, ap, ℕ, zero, suc, ◌+◌, ◌-◌, ◌*◌, ◌/◌, ◌%◌, ◌^◌, ◌<◌, ◌≤◌, List, [], ◌∷◌, ◌++◌, length, take, drop, slice_index, arith}
-use Rattle.std.proofs.Math.Nat.{div-add-mod, mul-suc, mul_comm, div-one, mod-one, zero-div, zero-mod, add-mul-mod_self_left, add-mul-div_left, div-eq_of_lt, mod-eq_of_lt}
+use Rattle.std.proofs.Math.Nat.{div-add-mod, mul-suc, mul_comm, mul_assoc, mul-add, div-one, mod-one, zero-div, zero-mod, add-mul-mod_self_left, add-mul-div_left, div-eq_of_lt, mod-eq_of_lt}
 use Rattle.std.proofs.Math.Pow.{mod-mod-pow}
-use Rattle.std.proofs.lemmas.Nat.{pow_pos, shr-shr, field_of, mod-pow-add}
+use Rattle.std.proofs.lemmas.Nat.{pow_pos, pow-add, shr-shr, field_of, mod-pow-add}
 use Rattle.byteorder.specs.Endian.{little_from, little_number}
 use Rattle.byteorder.specs.Numbers.{little_from-cons}
 use Rattle.vs_bytes.specs.PackedNumbers.{unpacked, packed, little}
@@ -97,6 +97,19 @@ packed_unpacked w (suc k) n =
     let rest = packed_unpacked w k (n / 2 ^ w) in
     let turned = mul_comm (n / 2 ^ w % 2 ^ (w * k)) (2 ^ w) in
     rw (rest, bits, mod-pow-add n (w * k) w, turned) (omega arith)
+
+pub packed_append : (w : ℕ) (ms ns : List ℕ) → packed w (ms ++ ns) ≡ packed w ms + 2 ^ (w * length ms) * packed w ns
+packed_append w [] ns =
+    let none : w * 0 ≡ 0 = omega arith in
+    let once : 2 ^ (w * 0) * packed w ns ≡ packed w ns = rw none (omega arith) in
+    omega (arith, once)
+packed_append w (m ∷ ms) ns =
+    let product = mul-suc w (length ms) in
+    let bits : w * suc (length ms) ≡ w + w * length ms = omega (arith, product) in
+    let power = pow-add 2 w (w * length ms) in
+    let sum = mul-add (2 ^ w) (packed w ms) (2 ^ (w * length ms) * packed w ns) in
+    let turned = mul_assoc (2 ^ w) (2 ^ (w * length ms)) (packed w ns) in
+    rw (packed_append w ms ns, bits, power) (omega (arith, sum, turned))
 
 -- Bytes.
 
