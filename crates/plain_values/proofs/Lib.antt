@@ -1,2 +1,5 @@
 pub mod Bits
 pub mod CellsInTurn
+pub mod ReadBack
+pub mod Samples
+pub mod Sizes
