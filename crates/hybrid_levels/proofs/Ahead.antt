@@ -1,11 +1,12 @@
 -- Parts that are read in turn.
-use Rattle.std.proofs.Common.{◌≡◌, ◌∙◌, refl, sym, ap, ℕ, zero, suc, ◌+◌, ◌-◌, ◌<◌, ◌≤◌, List, [], ◌++◌, length, drop, Ok, Err, append-nil, arith}
+use Rattle.std.proofs.Common.{◌≡◌, ◌∙◌, refl, sym, ap, ℕ, zero, suc, ◌+◌, ◌-◌, ◌<◌, ◌≤◌, List, [], ◌++◌, length, drop, Result, Ok, Err, append-nil, arith}
 use Rattle.std.proofs.lemmas.List.{drop-drop, length-drop, nil_from_length}
+use Rattle.vs_bytes.specs.Outcome.{◌>>=◌}
 use Rattle.vs_bytes.specs.PartsInTurn.{after}
 use Rattle.vs_bytes.proofs.PartsInTurn.{after_none, after_after}
 use Rattle.vs_bytes.specs.declared.rule.Rule.{Rule}
 use Rattle.vs_bytes.specs.declared.rule.Rule.TheVariants.{RunShort}
-use Rattle.hybrid_levels.specs.Hybrid.{header, front_part, parts, decoded}
+use Rattle.hybrid_levels.specs.Hybrid.{header, part_header, front_part, parts, decoded}
 
 -- what was read, in front of what the bytes from `at` on give, is all
 pub record Ahead (width count : ℕ) (bytes : List ℕ) (at filled : ℕ) (found : List ℕ) : Type 0 where
@@ -30,7 +31,7 @@ at_end width count bytes at filled found done ahead =
 
 -- no part has no bytes
 no_bytes : (width left : ℕ) → front_part width left [] ≡ Err RunShort
-unfolding front_part header
+unfolding front_part part_header header
 no_bytes width left = refl
 
 pub step_parts : (width most left used : ℕ) (bytes xs : List ℕ) → 0 < left → 0 < most → front_part width left bytes ≡ Ok (xs, used) → parts width most left bytes ≡ after xs used (parts width (most - 1) (left - length xs) (drop used bytes))
@@ -72,3 +73,22 @@ stopped width count bytes at filled found rule ahead less is =
     let h = ahead.enough in
     let size = length-drop at bytes in
     sym ahead.whole ∙ ap (after found at) (stop_parts width ahead.most (count - filled) (drop at bytes) rule (omega (arith, less)) (omega (arith, h, size)) is)
+
+-- a call by what its arguments are
+pub called : (wide width room left : ℕ) (behind rest : List ℕ) → wide ≡ width → room ≡ left → behind ≡ rest → front_part width left rest ≡ front_part wide room behind
+called wide width room left behind rest e f g =
+    ap (λ (n : ℕ). front_part n left rest) (sym e) ∙ ap (λ (n : ℕ). front_part wide n rest) (sym f) ∙ ap (front_part wide room) (sym g)
+
+-- The same with lengths in place of numbers.
+
+pub sized : (part : Result (List ℕ × ℕ) Rule) (more used : ℕ) → (◌>>=◌ {B = ℕ × ℕ} part (λ p. Ok (length p.0, p.1))) ≡ Ok (more, used) → (xs : List ℕ) × ((part ≡ Ok (xs, used)) × (length xs ≡ more))
+sized (Ok p) more used is =
+    let pair : ℕ × ℕ = (length p.0, p.1) in
+    let asked : ℕ × ℕ = (more, used) in
+    let same : pair ≡ asked = cc in
+    (p.0, (ap (λ (q : ℕ × ℕ). Ok (p.0, q.1)) same, ap (λ (q : ℕ × ℕ). q.0) same))
+sized (Err rule) more used is = cc
+
+pub unsized : (part : Result (List ℕ × ℕ) Rule) (rule : Rule) → (◌>>=◌ {B = ℕ × ℕ} part (λ p. Ok (length p.0, p.1))) ≡ Err rule → part ≡ Err rule
+unsized (Ok p) rule is = cc
+unsized (Err fault) rule is = cc

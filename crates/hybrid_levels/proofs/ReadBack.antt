@@ -12,8 +12,7 @@ use Rattle.byteorder.specs.Numbers.{little_number-reads_back, length-bytes_low_f
 use Rattle.vs_bytes.specs.Numbers.{number_bytes}
 use Rattle.vs_bytes.specs.PackedNumbers.{unpacked, packed, little}
 use Rattle.vs_bytes.proofs.PackedNumbers.{unpacked_len, unpacked_low, unpacked_packed, packed_unpacked, little_front}
-use Rattle.vs_bytes.specs.PartsInTurn.{after}
-use Rattle.hybrid_levels.specs.Hybrid.{varint, header, content_len, content_numbers, passes, front_part, parts, decoded}
+use Rattle.hybrid_levels.specs.Hybrid.{varint, header, content_len, content_numbers, passes, part_header, front_part, parts, decoded}
 use Rattle.hybrid_levels.specs.Written.{varint_bytes, run, group, stretch, piece, piece_count, pieces, encoded}
 use Rattle.hybrid_levels.proofs.Ahead.{step_parts}
 use Rattle.hybrid_levels.proofs.Packed.{bytes_hold}
@@ -57,7 +56,7 @@ one_or_more most n = by (nat_lt n 128)
 -- A part is its header, its content and what comes after.
 part_back : (width left h : ℕ) (body more : List ℕ) → h < 2 ^ 32 → length body ≡ content_len width h → passes h left ≡ false →
     front_part width left (varint_bytes 5 h ++ (body ++ more)) ≡ Ok (take left (content_numbers width h body), length (varint_bytes 5 h) + content_len width h)
-unfolding front_part
+unfolding front_part part_header
 part_back width left h body more fits size room =
     let front = varint_bytes 5 h in
     let back = header_back h (body ++ more) fits in
@@ -78,22 +77,24 @@ bytes_back size n fits =
     ∙ ap (little_number size) (sym (append-nil (little_bytes size n)))
     ∙ little_number-reads_back size n [] fits
 
+copies_back : (width left copies n : ℕ) (body more : List ℕ) → length body ≡ (width + 7) / 8 → little body ≡ n → copies ≤ left → copies < 2 ^ 31 →
+    front_part width left ((varint_bytes 5 (2 * copies) ++ body) ++ more) ≡ Ok (replicate copies n, length (varint_bytes 5 (2 * copies) ++ body))
+copies_back width left copies n body more size value most few =
+    let front = varint_bytes 5 (2 * copies) in
+    let even = eq-eqb (2 * copies % 2) 0 (omega arith) in
+    let half : 2 * copies / 2 ≡ copies = omega arith in
+    let len = length-replicate copies n in
+    let all = length-append front body in
+    let numbers : take left (content_numbers width (2 * copies) body) ≡ replicate copies n = rw (even, half, value) (take_all left (replicate copies n) (omega (arith, len, most))) in
+    let total : length front + content_len width (2 * copies) ≡ length (front ++ body) = rw (even, all, size) refl in
+    let back = part_back width left (2 * copies) body more (omega (arith, few)) (rw even size) (rw (even, half) (le-ltb left copies most)) in
+    rw (append_assoc front body more, back, numbers, total) refl
+
 run_back : (width left copies n : ℕ) (more : List ℕ) → n < 2 ^ width → copies ≤ left → copies < 2 ^ 31 → front_part width left (run width copies n ++ more) ≡ Ok (replicate copies n, length (run width copies n))
 unfolding run
 run_back width left copies n more fits most few =
-    let h = 2 * copies in
-    let front = varint_bytes 5 h in
-    let body = number_bytes ((width + 7) / 8) n in
-    let even = eq-eqb (2 * copies % 2) 0 (omega arith) in
-    let half : 2 * copies / 2 ≡ copies = omega arith in
-    let size : length body ≡ (width + 7) / 8 = length-bytes_low_first 0 ((width + 7) / 8) n in
-    let back = part_back width left h body more (omega (arith, few)) (rw even size) (rw (even, half) (le-ltb left copies most)) in
-    let value = bytes_back ((width + 7) / 8) n (bytes_hold n width fits) in
-    let numbers : take left (content_numbers width h body) ≡ replicate copies n =
-    rw (even, half, value) (take_all left (replicate copies n) (let e = length-replicate copies n in omega (arith, e, most))) in
-    let all = length-append front body in
-    let total : length front + content_len width h ≡ length (front ++ body) = rw (even, all, size) refl in
-    ap (front_part width left) (append_assoc front body more) ∙ back ∙ ap (λ (xs : List ℕ). Ok (xs, length front + content_len width h)) numbers ∙ ap (λ (k : ℕ). Ok (replicate copies n, k)) total
+    let size = (width + 7) / 8 in
+    copies_back width left copies n (number_bytes size n) more (length-bytes_low_first 0 size n) (bytes_back size n (bytes_hold n width fits)) most few
 
 -- A group.
 
@@ -170,6 +171,18 @@ some_bytes width ns = by (nat_le 8 (stretch ns))
 
 -- All parts.
 
+-- one part, and what follows it
+part_on : (width turns : ℕ) (all taken left front behind more : List ℕ) → 0 < length all → 0 < turns → taken ++ left ≡ all →
+    front_part width (length all) (front ++ (behind ++ more)) ≡ Ok (taken, length front) → parts width (turns - 1) (length left) (behind ++ more) ≡ Ok (left, length behind) →
+    parts width turns (length all) ((front ++ behind) ++ more) ≡ Ok (all, length (front ++ behind))
+part_on width turns all taken left front behind more some room whole here rest =
+    let step = step_parts width turns (length all) (length front) (front ++ (behind ++ more)) taken some room here in
+    let size : length all ≡ length taken + length left = ap length (sym whole) ∙ length-append taken left in
+    let count : length all - length taken ≡ length left = omega (arith, size) in
+    let bytes = drop-append_seam front (behind ++ more) in
+    let total = length-append front behind in
+    rw (append_assoc front behind more, step, count, bytes, rest, whole, total) refl
+
 pub all_back : (width most turns : ℕ) (ns more : List ℕ) → ((k : ℕ) → slice_index ns k < 2 ^ width) → length ns < 2 ^ 31 → length ns ≤ most → length (pieces width most ns) ≤ turns →
     parts width turns (length ns) (pieces width most ns ++ more) ≡ Ok (ns, length (pieces width most ns))
 all_back width zero turns [] more fits few enough room = refl
@@ -178,25 +191,15 @@ all_back width zero turns (n ∷ ns) more fits few enough room = absurd (omega (
 all_back width (suc most) turns (n ∷ ns) more fits few enough room =
     let all = n ∷ ns in
     let count = piece_count all in
-    let front = piece width all in
     let left = drop count all in
-    let behind = pieces width most left in
-    let total = length-append front behind in
+    let total = length-append (piece width all) (pieces width most left) in
     let byte = some_bytes width all in
     let taken = some_taken all in
-    let front_len = length-take count all in
     let left_len = length-drop count all in
-    let back = piece_back width all (behind ++ more) fits few (omega arith) in
     let fits_left : (k : ℕ) → slice_index left k < 2 ^ width = λ k. rw (get_or-drop count all k 0) (fits (count + k)) in
-    let rest = all_back width most (turns - 1) left more fits_left (omega (arith, left_len, few)) (omega (arith, left_len, enough, taken)) (omega (arith, total, room, byte)) in
-    let counts : length all - length (take count all) ≡ length left = omega (arith, front_len, left_len) in
-    ap (parts width turns (length all)) (append_assoc front behind more)
-    ∙ step_parts width turns (length all) (length front) (front ++ (behind ++ more)) (take count all) (omega arith) (omega (arith, total, room, byte)) back
-    ∙ ap (λ (k : ℕ). after (take count all) (length front) (parts width (turns - 1) k (drop (length front) (front ++ (behind ++ more))))) counts
-    ∙ ap (λ (xs : List ℕ). after (take count all) (length front) (parts width (turns - 1) (length left) xs)) (drop-append_seam front (behind ++ more))
-    ∙ ap (after (take count all) (length front)) rest
-    ∙ ap (λ (xs : List ℕ). Ok (xs, length front + length behind)) (take-append-drop count all)
-    ∙ ap (λ (k : ℕ). Ok (all, k)) (sym total)
+    part_on width turns all (take count all) left (piece width all) (pieces width most left) more (omega arith) (omega (arith, total, room, byte)) (take-append-drop count all)
+    (piece_back width all (pieces width most left ++ more) fits few (omega arith))
+    (all_back width most (turns - 1) left more fits_left (omega (arith, left_len, few)) (omega (arith, left_len, enough, taken)) (omega (arith, total, room, byte)))
 
 pub numbers_back : (width : ℕ) (ns more : List ℕ) → ((k : ℕ) → slice_index ns k < 2 ^ width) → length ns < 2 ^ 31 → decoded width (length ns) (encoded width ns ++ more) ≡ Ok (ns, length (encoded width ns))
 numbers_back width ns more fits few =

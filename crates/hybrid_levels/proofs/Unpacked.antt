@@ -1,15 +1,15 @@
 -- Groups of packed numbers.
-use Rattle.std.proofs.Common.{◌≡◌, ◌∙◌, refl, sym, ap, subst, ℕ, suc, ◌+◌, ◌-◌, ◌*◌, ◌/◌, ◌%◌, ◌^◌, ◌<◌, ◌≤◌, List, [], ◌∷◌, ◌++◌, length, take, drop, slice_index, set, bit_and, min, ◌⊎◌, inl, inr, arith, lit<}
+use Rattle.std.proofs.Common.{◌≡◌, ◌∙◌, refl, sym, ap, subst, ℕ, suc, ◌+◌, ◌-◌, ◌*◌, ◌/◌, ◌%◌, ◌^◌, ◌<◌, ◌≤◌, List, [], ◌∷◌, ◌++◌, length, take, drop, slice_index, set, bit_and, min, Bool, true, false, cond, replicate, ◌⊎◌, inl, inr, arith, lit<}
 use Rattle.std.proofs.Math.Nat.{mod-lt, mul_comm, suc-mul, mul-le-mul_right, pow-le-pow_right}
 use Rattle.std.proofs.Math.Seq.{take-append-add}
 use Rattle.std.proofs.lemmas.Bool.{cases_lt, ne_eqb}
 use Rattle.std.proofs.lemmas.Slice.{take-put_mid}
 use borrow.Rule.Slice.PartMut.{put_mid}
-use Rattle.std.proofs.lemmas.List.{take_more_set, take_all, append_assoc, append-nil, get_or-drop, drop-drop, length-take, length-drop, length-take-le, take_at, take-append-le}
+use Rattle.std.proofs.lemmas.List.{take_more_set, take_all, append_assoc, append-nil, get_or-drop, drop-drop, length-take, length-drop, length-replicate, length-take-le, take_at, take-append-le}
 use Rattle.std.proofs.lemmas.Nat.{pow_pos, and_mask, one_shl}
 use Rattle.byteorder.specs.Endian.{little_number}
 use Rattle.vs_bytes.specs.PackedNumbers.{unpacked, little}
-use Rattle.hybrid_levels.specs.Hybrid.{content_count, content_numbers}
+use Rattle.hybrid_levels.specs.Hybrid.{is_run, content_count, content_numbers}
 use Rattle.vs_bytes.proofs.PackedNumbers.{fewer_bits, unpacked_len, unpacked_low, unpacked_split, take_unpacked, packed_low, packed_high, little_front}
 
 -- the number in the first k bytes or more
@@ -131,3 +131,16 @@ front_joined {X = X} filled size count xs ys h k =
     ap (λ (n : ℕ). take (n + count) (put_mid filled size xs ys)) (sym front)
     ∙ take-append-add (take filled xs) (ys ++ zs) count
     ∙ ap (λ (s : List X). take filled xs ++ s) (take-append-le count ys zs k)
+
+pub content_taken : (width h left : ℕ) (bytes : List ℕ) → length (take left (content_numbers width h bytes)) ≡ min (content_count h) left
+content_taken width h left bytes = by (is_run h)
+  where
+    by : (b : Bool) → length (take left (cond b (replicate (cond b (h / 2) (8 * (h / 2))) (little bytes)) (unpacked width (cond b (h / 2) (8 * (h / 2))) (little bytes)))) ≡ min (cond b (h / 2) (8 * (h / 2))) left
+    by true =
+        let taken = length-take left (replicate (h / 2) (little bytes)) in
+        let all = length-replicate (h / 2) (little bytes) in
+        omega (arith, taken, all)
+    by false =
+        let taken = length-take left (unpacked width (8 * (h / 2)) (little bytes)) in
+        let all = unpacked_len width (8 * (h / 2)) (little bytes) in
+        omega (arith, taken, all)

@@ -9,6 +9,7 @@
 -- A header is below 2 ^ 32 and takes at most 5 bytes. The last part may have up to 7 numbers more than are asked
 -- for, to fill up its last group. Bytes after it are passed over.
 use Rattle.std.specs.Prelude.{ℕ, zero, suc, ◌+◌, ◌-◌, ◌*◌, ◌/◌, ◌%◌, ◌^◌, ◌==◌, nat_lt, nat_le, Bool, if◌then◌else◌, List, [], ◌∷◌, length, take, drop, replicate, Result, Ok, Err}
+use Rattle.vs_bytes.specs.Numbers.{part}
 use Rattle.vs_bytes.specs.Outcome.{◌>>=◌}
 use Rattle.vs_bytes.specs.PackedNumbers.{unpacked, little}
 use Rattle.vs_bytes.specs.PartsInTurn.{after}
@@ -54,12 +55,17 @@ passes h left = if is_run h then nat_lt left (content_count h) else nat_le (left
 
 -- Parts.
 
--- the numbers of the part at the front, at most `left`, and how many bytes it takes
-unfoldable pub front_part : ℕ → ℕ → List ℕ → Result (List ℕ × ℕ) Rule
-front_part width left bytes = header bytes >>= (λ h.
+-- the header of the part at the front, where the whole part is there and has no number too many
+unfoldable pub part_header : ℕ → ℕ → List ℕ → Result (ℕ × ℕ) Rule
+part_header width left bytes = header bytes >>= (λ h.
     if nat_lt (length bytes) (h.1 + content_len width h.0) then Err RunShort
     else if passes h.0 left then Err RunTooLong
-    else Ok (take left (content_numbers width h.0 (take (content_len width h.0) (drop h.1 bytes))), h.1 + content_len width h.0))
+    else Ok h)
+
+-- the numbers of the part at the front, at most `left`, and how many bytes it takes
+unfoldable pub front_part : ℕ → ℕ → List ℕ → Result (List ℕ × ℕ) Rule
+front_part width left bytes = part_header width left bytes >>= (λ h.
+    Ok (take left (content_numbers width h.0 (part bytes h.1 (content_len width h.0))), h.1 + content_len width h.0))
 
 -- `left` numbers from at most `most` parts
 abbrev pub parts : ℕ → ℕ → ℕ → List ℕ → Result (List ℕ × ℕ) Rule
@@ -72,3 +78,13 @@ parts width (suc most) (suc left) bytes =
 -- takes a byte or more, so there are no more parts than bytes
 abbrev pub decoded : ℕ → ℕ → List ℕ → Result (List ℕ × ℕ) Rule
 decoded width count bytes = parts width (length bytes) count bytes
+
+-- The same with lengths in place of numbers.
+
+-- how many numbers and how many bytes the part at the front has
+abbrev pub front_size : ℕ → ℕ → List ℕ → Result (ℕ × ℕ) Rule
+front_size width left bytes = front_part width left bytes >>= (λ p. Ok (length p.0, p.1))
+
+-- how many bytes `count` numbers take
+abbrev pub decoded_len : ℕ → ℕ → List ℕ → Result ℕ Rule
+decoded_len width count bytes = decoded width count bytes >>= (λ p. Ok p.1)

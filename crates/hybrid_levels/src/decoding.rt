@@ -5,40 +5,9 @@ ghost use Rattle.vs_bytes.specs.Outcome.{Gives};
 ghost use Rattle.vs_bytes.specs.PackedNumbers.{little};
 ghost use Rattle.hybrid_levels.specs.Hybrid.{content_len, content_count, content_numbers, passes, front_part, decoded};
 
-use crate::headers::header;
+use crate::headers::{content_count, content_len, part_header};
 use crate::unpacking::unpack_groups;
 use vs_bytes::{Rule, number_at, part, rest};
-
-fn content_len(width: usize, header: u32) -> usize
-    requires { width ≤ 32 }
-    ensures { result ≡ content_len width header }
-{
-    if header % 2 == 0 {
-        width.div_ceil(8)
-    } else {
-        header as usize / 2 * width
-    }
-}
-
-fn content_count(header: u32) -> usize
-    ensures { result ≡ content_count header }
-{
-    if header % 2 == 0 {
-        header as usize / 2
-    } else {
-        8 * (header as usize / 2)
-    }
-}
-
-fn passes(header: u32, left: usize) -> bool
-    ensures { result ≡ passes header left }
-{
-    if header % 2 == 0 {
-        left < content_count(header)
-    } else {
-        content_count(header).saturating_sub(left) >= 8
-    }
-}
 
 // The number of a run.
 fn run_number(bytes: &[u8]) -> u32
@@ -77,15 +46,9 @@ fn front_part(width: usize, bytes: &[u8], into: &mut [u32]) -> Result<(usize, us
     ensures least { IfOk result (λ p. 1 ≤ p.1) }
     ensures inside { IfOk result (λ p. p.1 ≤ length bytes.now) }
 {
-    match header(bytes) {
+    match part_header(width, into.len(), bytes) {
         Ok((header, used)) => {
             let len = content_len(width, header);
-            if bytes.len() < used + len {
-                return Err(Rule::RunShort);
-            }
-            if passes(header, into.len()) {
-                return Err(Rule::RunTooLong);
-            }
             let count = fill(width, header, part(bytes, used, len), into);
             Ok((count, used + len))
         }

@@ -6,6 +6,7 @@
 //! | `headers` | the header of a part |
 //! | `unpacking` | groups of packed numbers |
 //! | `decoding` | `decode`: numbers from the front of bytes |
+//! | `measuring` | `measure`: how many bytes numbers take, without room for them |
 //! | `packing` | numbers packed into bytes |
 //! | `encoding` | `encode`: the bytes of numbers |
 //! | `laws` | what is written decodes to its numbers |
@@ -15,9 +16,11 @@ mod decoding;
 mod encoding;
 mod headers;
 mod laws;
+mod measuring;
 mod packing;
 mod unpacking;
 
 pub use decoding::decode;
 pub use encoding::encode;
 pub use laws::written_numbers_read_back;
+pub use measuring::measure;

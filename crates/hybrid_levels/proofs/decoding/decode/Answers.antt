@@ -1,17 +1,11 @@
 use Rattle.std.proofs.Common.{◌≡◌, ◌∙◌, ◌<◌, ◌≤◌, sym, ap, subst, List, ℕ, ◌+◌, ◌-◌, ◌++◌, length, take, drop, take_all, length-take, length-drop, Ok, arith}
-use Rattle.hybrid_levels.specs.Hybrid.{front_part}
-use Rattle.hybrid_levels.proofs.Ahead.{Ahead, at_start, at_end, one_on, stopped}
+use Rattle.hybrid_levels.proofs.Ahead.{Ahead, at_start, at_end, one_on, stopped, called}
 use Rattle.hybrid_levels.proofs.Unpacked.{front_joined}
 use Rattle.hybrid_levels.proofs.decoding.decode.Goals as goal
 
 -- the room that is left in a list of `len` numbers
 room_left : (filled len : ℕ) (xs : List ℕ) → length xs ≡ len → length (take (length xs - filled) (drop filled xs)) ≡ len - filled
 room_left filled len xs size = simp (length-take, length-drop) (omega (arith, size))
-
--- the same call, by what its arguments are
-called : (wide width room left : ℕ) (behind rest : List ℕ) → wide ≡ width → room ≡ left → behind ≡ rest → front_part width left rest ≡ front_part wide room behind
-called wide width room left behind rest e f g =
-    ap (λ (n : ℕ). front_part n left rest) (sym e) ∙ ap (λ (n : ℕ). front_part wide n rest) (sym f) ∙ ap (front_part wide room) (sym g)
 
 pub loop-filled-init : goal.loop-filled-init
 loop-filled-init c = record {
