@@ -1,5 +1,6 @@
 CRATE ?= exact_json
 PROGRAM = crates/vstore/out/vstore
+COST = crates/variant_cost/out/variant_cost
 PREFIX ?= /usr/local
 
 .PHONY: demo build install test check fmt bench
@@ -18,4 +19,5 @@ check:              ## one crate while you edit: make check CRATE=json_tree
 fmt:                ## lays out every crate
 	@for c in crates/*/; do (cd $$c && rt fmt) || exit 1; done
 bench: build        ## times the program on generated data, beside its peers
-	@bench/run.sh $(PROGRAM)
+	@cd crates/variant_cost && rt run -- view 0 < stdin > /dev/null
+	@COST=$(COST) bench/run.sh $(PROGRAM)

@@ -3,9 +3,12 @@
 # instructions per byte where valgrind is. Prints a table in Markdown.
 #
 # usage: bench/run.sh PROGRAM [MEGABYTES..]
+#
+# The environment may name the program `variant_cost` as COST: then reading Variant bytes is counted too.
 set -eu
 here=$(cd "$(dirname "$0")" && pwd)
 program=$(realpath "$1")
+cost=${COST:-}
 shift
 sizes=${*:-10 100}
 work=$(mktemp -d)
@@ -77,14 +80,15 @@ if command -v jq > /dev/null; then
     done
 fi
 
-# what one line of 1 MB takes: of records, of many members, and of arrays that are mostly brackets
+# what one line of 1 MB takes: of records, of many members or items, and of arrays that are mostly brackets
 echo
-echo "| line of 1 MB | s | peak MB |"
-echo "|---|---|---|"
-for shape in long wide small deep; do
+echo "| line of 1 MB | scan s | peak MB | variant s | peak MB |"
+echo "|---|---|---|---|---|"
+for shape in long wide items small deep; do
     python3 "$here/generate.py" "$shape" 1040000 > "$work/in"
-    read -r ours memory < <(timed "$program" scan '$')
-    echo "| $shape | $ours | $((memory / 1000)).$((memory % 1000 / 100)) |"
+    read -r scan held < <(timed "$program" scan '$')
+    read -r ours memory < <(timed "$program" variant)
+    python3 -c "print(f'| $shape | $scan | {$held / 1000:.1f} | $ours | {$memory / 1000:.1f} |')"
 done
 
 if command -v valgrind > /dev/null; then
@@ -123,6 +127,22 @@ if command -v valgrind > /dev/null; then
             echo "| $shape | $bytes | $(( ($(count '$.a') - start) / bytes )) |"
         done
     done
+
+    # reading the bytes of Variant values: judging and viewing them, and making their trees
+    if [ -n "$cost" ]; then
+        echo
+        echo "| value | bytes | instructions per byte: view | view and tree |"
+        echo "|---|---|---|---|"
+        spent() { valgrind --tool=callgrind --callgrind-out-file=/dev/null "$cost" "$@" < "$work/in" 2>&1 > "$work/out" | awk '/Collected/ {print $4}'; }
+        for shape in kilo records numbers; do
+            python3 "$here/generate.py" "$shape" 1 > "$work/in"
+            base=$(spent view 0)
+            views=$(spent view 2000)
+            trees=$(spent tree 2000)
+            bytes=$(awk '{print $1}' "$work/out")
+            python3 -c "print(f'| $shape | $bytes | {($views - $base) / 2000 / $bytes:.1f} | {($trees - $base) / 2000 / $bytes:.1f} |')"
+        done
+    fi
 
     # filters of growing size: of terms, of brackets, and of spaces; no input
     echo
