@@ -2,7 +2,6 @@
 use Rattle.std.proofs.Common.{◌≡◌, ◌∙◌, ◌⊎◌, inl, inr, refl, sym, ap, subst, ℕ, List, [], Result, Ok, Err, arith}
 use Rattle.outside.specs.Devices.{Device}
 use Rattle.outside.specs.Memory.{Given, Taken, source_device, sink_device}
-use Rattle.outside.specs.declared.sink.SinkError.{SinkError}
 use Rattle.outside.specs.declared.sink.SinkError.TheVariants as sink
 use Rattle.json_documents.specs.Documents.{at_end}
 use Rattle.json_documents.specs.declared.faults.InputFault.TheVariants as why
@@ -16,6 +15,8 @@ use Rattle.variant_store.specs.Stream.{Stream}
 use Rattle.variant_store.specs.Streaming.{Streams}
 use Rattle.variant_store.specs.Top.{Does, Works, Runs, Ends, IsAnswer}
 use Rattle.variant_store.specs.World.{World, world_of}
+use Rattle.variant_store.specs.declared.gatherer.OutputFault.{OutputFault}
+use Rattle.variant_store.specs.declared.gatherer.OutputFault.TheVariants as output
 use Rattle.variant_store.specs.declared.command_error.CommandError.{CommandError}
 use Rattle.variant_store.specs.declared.command_error.CommandError.TheVariants as error
 
@@ -30,7 +31,7 @@ pub record Whole (words : List (List ℕ)) (input left : Given) (out out_now : T
   pub has_printed : Prints stream input at_end out out_now
   pub at_end : left.left ≡ []
 
-whole_stream : (words : List (List ℕ)) (stream : Stream) (input left : Given) (out out_now : Taken) (end : Result (Unit {0}) (Stop SinkError)) → AskFor words (prints stream) → Ok tt ≡ stream_end end → Streams stream (in_memory input out) (in_memory left out_now) end → Whole words input left out out_now
+whole_stream : (words : List (List ℕ)) (stream : Stream) (input left : Given) (out out_now : Taken) (end : Result (Unit {0}) (Stop OutputFault)) → AskFor words (prints stream) → Ok tt ≡ stream_end end → Streams stream (in_memory input out) (in_memory left out_now) end → Whole words input left out out_now
 whole_stream words stream input left out out_now (Ok u) ask e s =
     let gives = s.0.are_of input.left refl in
     let none = gives.1 in
@@ -76,7 +77,7 @@ reported error status err err_now three (inr h) = let seven = h.0 in absurd (ome
 abbrev StopsAt : Stream → Given → Taken → Taken → Taken → Taken → Type 0
 StopsAt stream input out out_now err err_now = StopsAtLine stream input out out_now err err_now ⊎ StopsAtLimit stream input out out_now err err_now
 
-stopped : (stream : Stream) (input left : Given) (out out_now err err_now : Taken) (status : ℕ) (end : Result (Unit {0}) (Stop SinkError)) → status ≡ 3 → Streams stream (in_memory input out) (in_memory left out_now) end
+stopped : (stream : Stream) (input left : Given) (out out_now err err_now : Taken) (status : ℕ) (end : Result (Unit {0}) (Stop OutputFault)) → status ≡ 3 → Streams stream (in_memory input out) (in_memory left out_now) end
     → Ends (stream_end end) status (sink_device err) (sink_device err_now) → StopsAt stream input out out_now err err_now
 stopped stream input left out out_now err err_now status (Ok u) three s e = let zero_is = e.0 in absurd (omega (arith, zero_is, three))
 stopped stream input left out out_now err err_now status (Err (Input (why.BadLine n fault))) three s e =
@@ -87,8 +88,9 @@ stopped stream input left out out_now err err_now status (Err (Input why.InputTo
     inr (record { prints = record { documents = s.0.documents; are_all = s.0.are_of input.left refl; answers = s.0.answers }; is_named = named error.InputTooLong err err_now told.1 })
 stopped stream input left out out_now err err_now status (Err (Input why.ReadFault)) three s e = let told = (reported error.ReadFault status (sink_device err) (sink_device err_now) three e).0 in absurd (omega (arith, told))
 stopped stream input left out out_now err err_now status (Err (Input why.NoMemory)) three s e = let told = (reported error.NoMemory status (sink_device err) (sink_device err_now) three e).0 in absurd (omega (arith, told))
-stopped stream input left out out_now err err_now status (Err (Taker sink.Failed)) three s e = let told = (reported error.WriteFault status (sink_device err) (sink_device err_now) three e).0 in absurd (omega (arith, told))
-stopped stream input left out out_now err err_now status (Err (Taker sink.NoMemory)) three s e = let told = (reported error.NoMemory status (sink_device err) (sink_device err_now) three e).0 in absurd (omega (arith, told))
+stopped stream input left out out_now err err_now status (Err (Taker (output.Write sink.Failed))) three s e = let told = (reported error.WriteFault status (sink_device err) (sink_device err_now) three e).0 in absurd (omega (arith, told))
+stopped stream input left out out_now err err_now status (Err (Taker output.NoMemory)) three s e = let told = (reported error.NoMemory status (sink_device err) (sink_device err_now) three e).0 in absurd (omega (arith, told))
+stopped stream input left out out_now err err_now status (Err (Taker (output.Write sink.NoMemory))) three s e = let told = (reported error.NoMemory status (sink_device err) (sink_device err_now) three e).0 in absurd (omega (arith, told))
 
 abbrev StopsSo : List (List ℕ) → Given → Taken → Taken → Taken → Taken → Type 0
 StopsSo words input out out_now err err_now = (stream : Stream) × AskFor words (prints stream) × StopsAt stream input out out_now err err_now

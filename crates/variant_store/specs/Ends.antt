@@ -1,11 +1,12 @@
 -- How a call ends: what its parts answer, as the answer of the call.
 use Rattle.std.specs.Prelude.{Result, Ok, Err}
-use Rattle.outside.specs.declared.sink.SinkError.{SinkError}
 use Rattle.outside.specs.declared.sink.SinkError.TheVariants as sink
 use Rattle.json_documents.specs.declared.faults.InputFault.{InputFault}
 use Rattle.json_documents.specs.declared.faults.InputFault.TheVariants as input
 use Rattle.json_documents.specs.declared.faults.Stop.{Stop}
 use Rattle.json_documents.specs.declared.faults.Stop.TheVariants.{Input, Taker}
+use Rattle.variant_store.specs.declared.gatherer.OutputFault.{OutputFault}
+use Rattle.variant_store.specs.declared.gatherer.OutputFault.TheVariants as output
 use Rattle.variant_store.specs.declared.words.WordsFault.{WordsFault}
 use Rattle.variant_store.specs.declared.words.WordsFault.TheVariants as words
 use Rattle.variant_store.specs.declared.command_error.CommandError.{CommandError}
@@ -22,12 +23,13 @@ input_error input.InputTooLong = InputTooLong
 input_error input.ReadFault = ReadFault
 input_error input.NoMemory = NoMemory
 
-abbrev pub output_error : SinkError → CommandError
-output_error sink.Failed = WriteFault
-output_error sink.NoMemory = NoMemory
+abbrev pub output_error : OutputFault → CommandError
+output_error output.NoMemory = NoMemory
+output_error (output.Write sink.Failed) = WriteFault
+output_error (output.Write sink.NoMemory) = NoMemory
 
 -- a command that prints something of each document
-abbrev pub stream_end : Result (Unit {0}) (Stop SinkError) → Result (Unit {0}) CommandError
+abbrev pub stream_end : Result (Unit {0}) (Stop OutputFault) → Result (Unit {0}) CommandError
 stream_end (Ok u) = Ok u
 stream_end (Err (Input fault)) = Err (input_error fault)
 stream_end (Err (Taker fault)) = Err (output_error fault)

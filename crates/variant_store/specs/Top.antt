@@ -1,7 +1,6 @@
 -- What a call of the program does, by how it ends.
 use Rattle.std.specs.Prelude.{◌≡◌, ◌⊎◌, ℕ, List, Some, Result, Ok, Err}
 use Rattle.outside.specs.Devices.{Device, Fails}
-use Rattle.outside.specs.declared.sink.SinkError.{SinkError}
 use Rattle.json_tree.specs.Json.{Json}
 use Rattle.json_documents.specs.Documents.{at_end, HasDocuments}
 use Rattle.json_documents.specs.declared.faults.Stop.{Stop}
@@ -11,13 +10,14 @@ use Rattle.variant_store.specs.World.{World}
 use Rattle.variant_store.specs.Streaming.{Streams}
 use Rattle.variant_store.specs.Ends.{stream_end}
 use Rattle.variant_store.specs.Report.{IsReported}
+use Rattle.variant_store.specs.declared.gatherer.OutputFault.{OutputFault}
 use Rattle.variant_store.specs.declared.words.BadWords.{BadWords}
 use Rattle.variant_store.specs.declared.command_error.CommandError.{CommandError}
 use Rattle.variant_store.specs.declared.command_error.CommandError.TheVariants as error
 
 -- what a command does, by how the call ends
 abbrev pub Does : Command → World → World → Result (Unit {0}) CommandError → Type 0
-Does (prints stream) before after done = (end : Result (Unit {0}) (Stop SinkError)) × (done ≡ stream_end end) × Streams stream before after end
+Does (prints stream) before after done = (end : Result (Unit {0}) (Stop OutputFault)) × (done ≡ stream_end end) × Streams stream before after end
 
 -- the words ask for a command, and it was done so
 pub record Works (words : List (List ℕ)) (before after : World) (done : Result (Unit {0}) CommandError) : Type 0 where

@@ -4,6 +4,7 @@ ghost use Rattle.std.specs.Prelude.{◌≡◌, IfOk, string_bytes};
 ghost use Rattle.variant_store.specs.Ends.{words_error, input_error, output_error, stream_end};
 ghost use Rattle.variant_store.specs.Report.{status_of, message_of, IsReported};
 
+use crate::gatherer::OutputFault;
 use crate::words::{BadWords, WordsFault};
 use json_documents::{DocFault, InputFault, Stop};
 use outside::{Sink, SinkError, write_all};
@@ -49,17 +50,17 @@ fn input_error(fault: InputFault) -> CommandError
 }
 
 /// How a call ends that stops at its output.
-fn output_error(fault: SinkError) -> CommandError
+fn output_error(fault: OutputFault) -> CommandError
     ensures { result ≡ output_error fault }
 {
     match fault {
-        SinkError::Failed => CommandError::WriteFault,
-        SinkError::NoMemory => CommandError::NoMemory,
+        OutputFault::Write(SinkError::Failed) => CommandError::WriteFault,
+        OutputFault::Write(SinkError::NoMemory) | OutputFault::NoMemory => CommandError::NoMemory,
     }
 }
 
 /// How a call ends that prints something of each document.
-pub fn stream_end(done: Result<(), Stop<SinkError>>) -> Result<(), CommandError>
+pub fn stream_end(done: Result<(), Stop<OutputFault>>) -> Result<(), CommandError>
     ensures { result ≡ stream_end done }
 {
     match done {
