@@ -1,6 +1,6 @@
 //! Lists.
 
-ghost use Rattle.std.specs.Prelude.{◌≡◌, ◌^◌, [], ◌∷◌, ◌++◌, ◌<◌, ◌↔◌, length, slice_get, Some, OnOk, OnErr, IsTrue};
+ghost use Rattle.std.specs.Prelude.{◌≡◌, ◌^◌, [], ◌∷◌, ◌++◌, ◌<◌, ◌↔◌, length, slice_get, Some, IfOk, OnOk, OnErr, IsTrue};
 ghost use Rattle.std.specs.Iterator.Adapters.{IterYieldsInOrder};
 ghost use Rattle.std.specs.Slice.Iter.{iter_rest};
 
@@ -34,6 +34,15 @@ impl<T: Drop> Sequence<T> {
         Sequence {
             items: Vec::new(alloc),
         }
+    }
+
+    /// No items, and memory for `capacity` of them.
+    pub fn with_capacity(alloc: Global, capacity: usize) -> Result<Sequence<T>, NoMemory>
+        ensures { IfOk result (λ s. s ≡ []) }
+    {
+        Ok(Sequence {
+            items: Vec::with_capacity(alloc, capacity)?,
+        })
     }
 
     /// The items of a vector, which it takes over.
