@@ -24,7 +24,10 @@ pub(crate) fn booleans(alloc: Global, count: usize, bytes: &[u8]) -> Result<Cell
     if bytes.len() < count.div_ceil(8) {
         return Err(Refused::Fault(Rule::PlainShort));
     }
-    let mut found = Cells::new(alloc);
+    let mut found = match Cells::with_capacity(alloc, count) {
+        Ok(room) => room,
+        Err(_) => return Err(Refused::NoMemory),
+    };
     for place in 0..count {
         match found.push(Cell::Bool(truth_at(bytes, place))) {
             Ok(()) => (),

@@ -13,7 +13,11 @@ use vs_bytes::{Cells, Leaf, Phys, Refusal, Refused, rest};
 fn cells(alloc: Global, leaf: &Leaf, count: usize, bytes: &[u8]) -> Result<Cells, Refusal>
     ensures { Makes (λ cells. cells) result (cells (front_cell leaf.now.phys leaf.now.prim) count bytes.now) }
 {
-    let mut found = Cells::new(alloc);
+    // Most cells take 4 bytes or more. A count that the bytes can't bear asks for no more memory.
+    let mut found = match Cells::with_capacity(alloc, count.min(bytes.len() / 4)) {
+        Ok(room) => room,
+        Err(_) => return Err(Refused::NoMemory),
+    };
     let mut at = 0;
     for _i in 0..count {
         match front_cell(alloc, leaf, rest(bytes, at)) {
