@@ -1,9 +1,11 @@
 pub mod Appended
 pub mod Ends
+pub mod Filling
 pub mod ReadBack
 mod Samples
 pub mod SkipsBack
 pub mod Skipped
+pub mod TreeEnds
 pub mod TreesBack
 pub mod Varints
 pub mod Written

@@ -1,6 +1,6 @@
 -- The bytes of values in the Thrift compact protocol. Of the forms that the protocol allows, field headers and
 -- list headers are the short ones where they can be, and varints have no byte more than they need.
-use Rattle.std.specs.Prelude.{ℕ, zero, suc, ◌+◌, ◌-◌, ◌*◌, ◌/◌, ◌%◌, max, nat_lt, nat_le, ◌&&◌, if◌then◌else◌, List, [], ◌∷◌, ◌++◌, length, ℤ, pos, negsuc, unsigned_abs}
+use Rattle.std.specs.Prelude.{ℕ, zero, suc, ◌+◌, ◌-◌, ◌*◌, ◌/◌, ◌%◌, max, nat_lt, nat_le, ◌&&◌, if◌then◌else◌, List, [], ◌∷◌, ◌++◌, length, ℤ, pos, negsuc, unsigned_abs, Option, Some, None}
 use Rattle.thrift_compact.specs.Numbers.{varint_most}
 use Rattle.thrift_compact.specs.Trees.{Value, Elements, Fields, other, bool_value, i8_value, i32_value, i64_value, binary_value, list_value, struct_value, no_elements, with_element, no_fields, with_field}
 
@@ -89,3 +89,8 @@ abbrev mutual
   pub fields_nesting : Fields → ℕ
   fields_nesting no_fields = 0
   fields_nesting (with_field id v fs) = max (nesting v) (fields_nesting fs)
+
+-- the fields, with a field before them where it is there
+abbrev pub maybe : {A : Type 0} → ℤ → (A → Value) → Option A → Fields → Fields
+maybe id tree None fs = fs
+maybe id tree (Some a) fs = with_field id (tree a) fs

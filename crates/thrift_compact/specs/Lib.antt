@@ -3,7 +3,9 @@ pub mod Ends
 pub mod Fitting
 pub mod Headers
 pub mod Numbers
+pub mod PageHeaders
 pub mod Readers
 pub mod Skipping
+pub mod Slots
 pub mod Trees
 pub mod Writers

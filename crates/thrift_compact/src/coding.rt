@@ -1,9 +1,9 @@
 //! How values are written: `Code`, and the plain types.
 
-ghost use Rattle.std.specs.Prelude.{◌≡◌, ◌≤◌, ◌++◌, ℕ, Bool, true, OnOk, unsigned_abs};
+ghost use Rattle.std.specs.Prelude.{◌≡◌, ◌≤◌, ◌++◌, ℕ, Bool, true, OnOk, IfOk, IfSome, unsigned_abs};
 ghost use Rattle.vs_bytes.specs.Outcome.{Grows};
-ghost use Rattle.thrift_compact.specs.Trees.{Value, Fields, bool_value, i8_value, i32_value, i64_value, binary_value, with_field};
-ghost use Rattle.thrift_compact.specs.Coded.{kind_of, coded, fields_coded};
+ghost use Rattle.thrift_compact.specs.Trees.{Value, Fields, bool_value, i8_value, i32_value, i64_value, binary_value, no_fields, with_field};
+ghost use Rattle.thrift_compact.specs.Coded.{kind_of, coded, fields_coded, maybe};
 
 use crate::appending::{append_binary, append_field_header, append_int8, append_signed};
 use vs_bytes::{Bytes, NoMemory};
@@ -43,6 +43,37 @@ pub(crate) fn append_field<C: Code>(
 {
     append_field_header(into, last, id, C::kind(value))?;
     C::write(into, value)
+}
+
+/// Appends an optional field, and answers the id of the last field then.
+#[tactic(auto)]
+pub(crate) fn append_maybe<C: Code>(
+    into: &mut Vec<u8>,
+    last: u16,
+    id: i16,
+    value: &Option<C::Of>,
+) -> Result<u16, NoMemory>
+    requires { IfSome value.now (λ x. C.fits x ≡ true) }
+    ensures ok { IfOk result (λ now. (fs : Fields) → into.new.items ++ fields_coded now fs ≡ into.old.items ++ fields_coded last (maybe id C.tree value.now fs)) }
+    ensures grows { Grows into.old.items into.new.items }
+{
+    match value {
+        None => Ok(last),
+        Some(value) => {
+            append_field::<C>(into, last, id, value)?;
+            Ok(id.unsigned_abs())
+        }
+    }
+}
+
+/// Appends the stop of a struct.
+#[tactic(auto, unfolding(crate::specs::Coded::fields_coded))]
+pub(crate) fn append_stop(into: &mut Vec<u8>, last: u16) -> Result<(), NoMemory>
+    ensures ok { OnOk result (into.new.items ≡ into.old.items ++ fields_coded last no_fields) }
+    ensures grows { Grows into.old.items into.new.items }
+{
+    into.push(0)?;
+    Ok(())
 }
 
 /// An i8.

@@ -20,9 +20,13 @@ mod coding;
 mod headers;
 mod laws;
 mod numbers;
+mod page_headers;
+mod plain_drafts;
 mod reader;
 mod skipping;
+mod slots;
 mod writer;
 
 pub use laws::{structs_read_back, values_are_passed_over, values_read_back};
+pub use page_headers::{DataHeader, DataHeaderV2, DictHeader, PageHeader, read_page_header};
 pub use reader::Reader;

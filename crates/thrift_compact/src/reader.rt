@@ -9,11 +9,8 @@ ghost use Rattle.thrift_compact.specs.Skipping.{max_nesting, skipped};
 
 use crate::headers::{field_at, list_at};
 use crate::numbers::{binary_at, i8_at, i32_at, i64_at};
-use crate::skipping::skip;
+use crate::skipping::{MAX_NESTING, skip};
 use vs_bytes::Rule;
-
-// How deep values that are passed over may nest.
-const MAX_NESTING: u8 = 32;
 
 /// Reads a struct in place: the header of a field, then its value, up to the stop.
 ///

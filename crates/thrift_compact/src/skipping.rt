@@ -9,6 +9,9 @@ use crate::headers::{field_at, is_type, list_at, map_size_at, map_types_at};
 use crate::numbers::{binary_at, byte_at, i16_at, i32_at, i64_at, part_at};
 use vs_bytes::Rule;
 
+/// How deep values that are passed over may nest, the outermost counted.
+pub(crate) const MAX_NESTING: u8 = 32;
+
 fn after_byte(bytes: &[u8]) -> Result<&[u8], Rule>
     ensures { Gives (λ r. r.now) result (after (byte bytes.now)) }
 {
