@@ -1,5 +1,5 @@
 -- Bytes that are appended.
-use Rattle.std.proofs.Common.{◌≡◌, refl, ℕ, suc, ◌+◌, ◌-◌, ◌/◌, ◌%◌, ◌<◌, ◌≤◌, nat_lt, List, [], ◌∷◌, ◌++◌, if◌then◌else◌, false, arith, append_assoc, append-nil}
+use Rattle.std.proofs.Common.{◌≡◌, refl, ℕ, suc, ◌+◌, ◌-◌, ◌/◌, ◌%◌, ◌<◌, ◌≤◌, nat_lt, List, [], ◌∷◌, ◌++◌, if◌then◌else◌, true, false, Option, None, Some, IfSome, arith, append_assoc, append-nil}
 use Rattle.std.proofs.lemmas.Bool.Decides.{nat_tests}
 use Rattle.thrift_compact.specs.Coded.{digits_of}
 
@@ -26,3 +26,7 @@ field_joined old head own more = simp append_assoc
 
 pub joined : (old head own : List ℕ) → (old ++ head) ++ own ≡ old ++ (head ++ own)
 joined old head own = append_assoc old head own
+
+pub some_always : {A : Type 0} (x : Option A) → IfSome x (λ a. true ≡ true)
+some_always None = tt
+some_always (Some a) = refl

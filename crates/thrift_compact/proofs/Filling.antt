@@ -1,11 +1,10 @@
 -- The fields of a struct, one after the other, in their slots.
-use Rattle.std.proofs.Common.{◌≡◌, refl, ℕ, zero, suc, ◌+◌, ◌-◌, ◌<◌, ◌≤◌, List, ℤ, Option, None, Some, Result, Ok, Err, arith}
+use Rattle.std.proofs.Common.{◌≡◌, refl, ℕ, suc, ◌+◌, ◌-◌, ◌<◌, ◌≤◌, List, ℤ, Option, None, Some, Ok, Err, arith}
 use Rattle.vs_bytes.specs.Outcome.{◌>>=◌}
-use Rattle.vs_bytes.specs.declared.rule.Rule.{Rule}
 use Rattle.vs_bytes.specs.declared.rule.Rule.TheVariants.{Thrift}
 use Rattle.thrift_compact.specs.Numbers.{Read, mapped}
 use Rattle.thrift_compact.specs.Headers.{field}
-use Rattle.thrift_compact.specs.Trees.{Value, Fields, no_fields, with_field, FieldRead, one_field, fields_at}
+use Rattle.thrift_compact.specs.Trees.{Value, Fields, with_field, FieldRead, one_field, fields_at}
 use Rattle.thrift_compact.specs.Slots.{filled, read_by}
 
 -- one field, and the fields after it

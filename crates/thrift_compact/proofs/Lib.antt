@@ -1,6 +1,7 @@
 pub mod Appended
 pub mod Ends
 pub mod Filling
+pub mod PagesBack
 pub mod ReadBack
 mod Samples
 pub mod SkipsBack

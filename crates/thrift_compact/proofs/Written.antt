@@ -1,5 +1,5 @@
 -- What a writer's calls write.
-use Rattle.std.proofs.Common.{◌≡◌, ◌∙◌, refl, sym, ap, ℕ, zero, suc, ◌+◌, List, [], ◌∷◌, ◌++◌, length, unsigned_abs, ℤ, arith, append_assoc, append-nil}
+use Rattle.std.proofs.Common.{◌≡◌, ◌∙◌, refl, sym, ap, ℕ, List, [], ◌∷◌, ◌++◌, length, unsigned_abs, ℤ, arith, append_assoc, append-nil}
 use Rattle.std.proofs.lemmas.List.{length-append}
 use Rattle.thrift_compact.specs.Trees.{Value, Elements, Fields, list_value, struct_value, no_elements, with_element, no_fields, with_field}
 use Rattle.thrift_compact.specs.Coded.{field_bytes, list_bytes, how_many, coded, elements_coded, fields_coded}

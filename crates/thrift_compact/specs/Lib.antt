@@ -4,6 +4,7 @@ pub mod Fitting
 pub mod Headers
 pub mod Numbers
 pub mod PageHeaders
+pub mod PageWriting
 pub mod Readers
 pub mod Skipping
 pub mod Slots

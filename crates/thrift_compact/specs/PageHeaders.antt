@@ -1,11 +1,11 @@
 -- Page headers (parquet.thrift, PageHeader, DataPageHeader, DictionaryPageHeader, DataPageHeaderV2).
-use Rattle.std.specs.Prelude.{ℕ, ◌-◌, Bool, true, not, ◌&&◌, if◌then◌else◌, List, length, ℤ, pos, int_lt, Option, Some, None, is_some, Result, Ok, Err}
+use Rattle.std.specs.Prelude.{ℕ, ◌-◌, Bool, true, if◌then◌else◌, List, length, ℤ, pos, Option, Some, None, is_some, Result, Ok, Err}
 use Rattle.std.specs.Ordering.{int_eq}
 use Rattle.vs_bytes.specs.Outcome.{◌>>=◌}
 use Rattle.vs_bytes.specs.declared.rule.Rule as rules
 use Rattle.vs_bytes.specs.declared.rule.Rule.TheVariants as rule
-use Rattle.thrift_compact.specs.Numbers.{Read, mapped}
-use Rattle.thrift_compact.specs.Trees.{Value, Fields, i32_value, struct_value, no_fields, with_field, Shapes, i32s, structs, unknown, known, struct_at, known_at}
+use Rattle.thrift_compact.specs.Numbers.{mapped}
+use Rattle.thrift_compact.specs.Trees.{Value, Fields, Shapes, i32s, structs, unknown, known, struct_at, known_at}
 use Rattle.thrift_compact.specs.Slots.{◌>>?◌, put_at, required, optional, counted, i32_in, struct_in, read_by}
 use Rattle.thrift_compact.specs.declared.slots.Slot.TheVariants.{Missing}
 use Rattle.thrift_compact.specs.declared.page_headers.DataHeader.{DataHeader}

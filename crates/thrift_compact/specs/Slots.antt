@@ -1,8 +1,8 @@
 -- Structs by their fields. Each known field of a struct has a slot, and the fields fill the slots in their order:
 -- a field that stands twice, or that can't be read, breaks its slot.
-use Rattle.std.specs.Prelude.{ℕ, List, ℤ, pos, int_lt, not, if◌then◌else◌, Option, Some, None}
+use Rattle.std.specs.Prelude.{ℕ, ℤ, pos, int_lt, if◌then◌else◌, Option, Some, None}
 use Rattle.std.specs.Ordering.{int_eq}
-use Rattle.thrift_compact.specs.Trees.{Value, Fields, i32_value, i64_value, struct_value, no_fields, with_field}
+use Rattle.thrift_compact.specs.Trees.{Value, Fields, i32_value, struct_value, no_fields, with_field}
 use Rattle.thrift_compact.specs.declared.slots.Slot.{Slot}
 use Rattle.thrift_compact.specs.declared.slots.Slot.TheVariants.{Missing, Found, Broken}
 

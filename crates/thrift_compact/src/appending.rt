@@ -91,8 +91,9 @@ pub(crate) fn append_field_header(
     }
 }
 
+/// The header of a list of `size` elements of type `kind`. After an `Err` some front of it may be appended.
 #[tactic(auto, using(std::proofs::lemmas::Bool::Decides::nat_tests, vs_bytes::proofs::Growing::grows_on), unfolding(crate::specs::Coded::list_bytes))]
-pub(crate) fn append_list_header(into: &mut Vec<u8>, kind: u8, size: u32) -> Result<(), NoMemory>
+pub fn append_list_header(into: &mut Vec<u8>, kind: u8, size: u32) -> Result<(), NoMemory>
     requires { kind ≤ 15 }
     ensures ok { OnOk result (into.new.items ≡ into.old.items ++ list_bytes kind size) }
     ensures grows { Grows into.old.items into.new.items }

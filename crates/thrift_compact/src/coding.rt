@@ -29,9 +29,9 @@ pub trait Code {
         ensures grows { Grows into.old.items into.new.items };
 }
 
-/// Appends a field. `last` is the id of the field before it, or 0.
+/// Appends a field. `last` is the id of the field before it, or 0. After an `Err` some front may be appended.
 #[tactic(auto, using(vs_bytes::proofs::Growing::grows_on, crate::proofs::Appended::field_joined), unfolding(crate::specs::Coded::fields_coded))]
-pub(crate) fn append_field<C: Code>(
+pub fn append_field<C: Code>(
     into: &mut Vec<u8>,
     last: u16,
     id: i16,
@@ -45,9 +45,9 @@ pub(crate) fn append_field<C: Code>(
     C::write(into, value)
 }
 
-/// Appends an optional field, and answers the id of the last field then.
+/// Appends a field that may be missing, and answers the id of the last field then.
 #[tactic(auto)]
-pub(crate) fn append_maybe<C: Code>(
+pub fn append_maybe<C: Code>(
     into: &mut Vec<u8>,
     last: u16,
     id: i16,
@@ -66,9 +66,9 @@ pub(crate) fn append_maybe<C: Code>(
     }
 }
 
-/// Appends the stop of a struct.
+/// Appends the stop of a struct whose last field is `last`.
 #[tactic(auto, unfolding(crate::specs::Coded::fields_coded))]
-pub(crate) fn append_stop(into: &mut Vec<u8>, last: u16) -> Result<(), NoMemory>
+pub fn append_stop(into: &mut Vec<u8>, last: u16) -> Result<(), NoMemory>
     ensures ok { OnOk result (into.new.items ≡ into.old.items ++ fields_coded last no_fields) }
     ensures grows { Grows into.old.items into.new.items }
 {

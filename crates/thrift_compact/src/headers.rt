@@ -29,7 +29,7 @@ fn field_id(last: i16, delta: u8, bytes: &[u8]) -> Result<(i16, &[u8]), Rule>
 
 /// The header of the field after the one of id `last`: id and type, or `None` at the stop.
 #[tactic(auto, using(std::proofs::lemmas::Bool::Decides::nat_tests), unfolding(crate::specs::Headers::field))]
-pub(crate) fn field_at(last: i16, bytes: &[u8]) -> Result<(Option<(i16, u8)>, &[u8]), Rule>
+pub fn field_at(last: i16, bytes: &[u8]) -> Result<(Option<(i16, u8)>, &[u8]), Rule>
     ensures { Gives (λ r. (r.0, r.1.now)) result (field last bytes.now) }
 {
     let (head, rest) = byte_at(bytes)?;
@@ -57,7 +57,7 @@ fn list_size(short: u8, bytes: &[u8]) -> Result<(u64, &[u8]), Rule>
 
 /// The header of a list or set: element type and size.
 #[tactic(auto, using(std::proofs::lemmas::Bool::Decides::nat_tests), unfolding(crate::specs::Headers::list))]
-pub(crate) fn list_at(bytes: &[u8]) -> Result<((u8, u32), &[u8]), Rule>
+pub fn list_at(bytes: &[u8]) -> Result<((u8, u32), &[u8]), Rule>
     ensures { Gives (λ r. (r.0, r.1.now)) result (list bytes.now) }
 {
     let (head, rest) = byte_at(bytes)?;

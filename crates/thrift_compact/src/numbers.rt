@@ -80,16 +80,18 @@ fn unzigzag_64(number: u64) -> i64
     }
 }
 
+/// An i64, and the bytes after it.
 #[tactic(auto, using(std::proofs::lemmas::Bool::Decides::nat_tests), unfolding(crate::specs::Numbers::signed))]
-pub(crate) fn i64_at(bytes: &[u8]) -> Result<(i64, &[u8]), Rule>
+pub fn i64_at(bytes: &[u8]) -> Result<(i64, &[u8]), Rule>
     ensures { Gives (λ r. (r.0, r.1.now)) result (signed 64 bytes.now) }
 {
     let (number, rest) = varint_at(bytes)?;
     Ok((unzigzag_64(number), rest))
 }
 
+/// An i32, and the bytes after it.
 #[tactic(auto, using(std::proofs::lemmas::Bool::Decides::nat_tests), unfolding(crate::specs::Numbers::signed))]
-pub(crate) fn i32_at(bytes: &[u8]) -> Result<(i32, &[u8]), Rule>
+pub fn i32_at(bytes: &[u8]) -> Result<(i32, &[u8]), Rule>
     ensures { Gives (λ r. (r.0, r.1.now)) result (signed 32 bytes.now) }
 {
     let (number, rest) = varint_at(bytes)?;
@@ -112,8 +114,9 @@ pub(crate) fn i16_at(bytes: &[u8]) -> Result<(i16, &[u8]), Rule>
     }
 }
 
+/// An i8, and the bytes after it.
 #[tactic(auto, using(std::proofs::lemmas::Bool::Decides::nat_tests), unfolding(crate::specs::Numbers::int8))]
-pub(crate) fn i8_at(bytes: &[u8]) -> Result<(i8, &[u8]), Rule>
+pub fn i8_at(bytes: &[u8]) -> Result<(i8, &[u8]), Rule>
     ensures { Gives (λ r. (r.0, r.1.now)) result (int8 bytes.now) }
 {
     let (byte, rest) = byte_at(bytes)?;
@@ -135,8 +138,9 @@ pub(crate) fn part_at(count: u64, bytes: &[u8]) -> Result<(&[u8], &[u8]), Rule>
     }
 }
 
+/// A binary or string in place, and the bytes after it.
 #[tactic(auto, unfolding(crate::specs::Numbers::binary))]
-pub(crate) fn binary_at(bytes: &[u8]) -> Result<(&[u8], &[u8]), Rule>
+pub fn binary_at(bytes: &[u8]) -> Result<(&[u8], &[u8]), Rule>
     ensures { Gives (λ r. (r.0.now, r.1.now)) result (binary bytes.now) }
 {
     let (count, rest) = varint_at(bytes)?;

@@ -6,7 +6,8 @@ ghost use Rattle.std.specs.Prelude.{◌≡◌, Option};
 ghost use Rattle.vs_bytes.specs.Outcome.{Gives};
 ghost use Rattle.thrift_compact.specs.PageHeaders.{data_shapes, data_start, data_put, data_finish, dict_shapes, dict_start, dict_put, dict_finish, data_v2_shapes, data_v2_start, data_v2_put, data_v2_finish, page_shapes, page_start, page_put, page_finish, has_inner, with_inner, page_header};
 
-use crate::plain_drafts::{PlainDraft, pass, put_i32, put_struct, read_struct};
+use crate::plain_drafts::{PlainDraft, put_i32, put_struct, read_struct};
+use crate::skipping::pass;
 use crate::slots::Slot;
 use vs_bytes::Rule;
 

@@ -3,12 +3,12 @@
 ghost use Rattle.std.specs.Prelude.{◌≡◌, ℤ, Option};
 ghost use Rattle.vs_bytes.specs.Outcome.{Gives};
 ghost use Rattle.thrift_compact.specs.Numbers.{mapped};
-ghost use Rattle.thrift_compact.specs.Trees.{Value, Shapes, other, i32s, structs, struct_at, known_at, at_shape, passed_over};
+ghost use Rattle.thrift_compact.specs.Trees.{Value, Shapes, i32s, structs, struct_at, known_at, at_shape};
 ghost use Rattle.thrift_compact.specs.Slots.{put as put_spec, filled, i32_in, struct_in, read_by};
 
 use crate::headers::field_at;
 use crate::numbers::i32_at;
-use crate::skipping::{MAX_NESTING, skip};
+use crate::skipping::pass;
 use crate::slots::Slot;
 use vs_bytes::Rule;
 
@@ -69,14 +69,6 @@ pub(crate) fn read_struct<D: PlainDraft>(bytes: &[u8]) -> Result<(Option<D::Item
 {
     let (held, rest) = read_fields::<D>(bytes)?;
     Ok((D::finished(held), rest))
-}
-
-/// Passes over the value of a field.
-#[tactic(auto, unfolding(crate::specs::Trees::passed_over))]
-pub(crate) fn pass(bytes: &[u8], kind: u8) -> Result<&[u8], Rule>
-    ensures { Gives (λ rest. (other, rest.now)) result (passed_over kind bytes.now) }
-{
-    skip(bytes, kind, MAX_NESTING)
 }
 
 /// Reads a field that is to be an i32.

@@ -3,6 +3,7 @@
 ghost use Rattle.std.specs.Prelude.{◌≡◌, ◌<◌, ◌≤◌, ◌^◌, length, pos};
 ghost use Rattle.vs_bytes.specs.Outcome.{Gives};
 ghost use Rattle.thrift_compact.specs.Numbers.{byte, signed, bytes_at, binary};
+ghost use Rattle.thrift_compact.specs.Trees.{other, passed_over};
 ghost use Rattle.thrift_compact.specs.Skipping.{after, plain, element, elements, pairs, map_after, fields, map_of, list_of, container, skipped};
 
 use crate::headers::{field_at, is_type, list_at, map_size_at, map_types_at};
@@ -171,4 +172,12 @@ fn skip_map(bytes: &[u8], room: u8) -> Result<&[u8], Rule>
         None => Ok(rest),
         Some((key, value)) => skip_pairs(rest, key, value, size, room),
     }
+}
+
+/// The bytes after the value of a field that isn't known, or has another type.
+#[tactic(auto, unfolding(crate::specs::Trees::passed_over))]
+pub fn pass(bytes: &[u8], kind: u8) -> Result<&[u8], Rule>
+    ensures { Gives (λ rest. (other, rest.now)) result (passed_over kind bytes.now) }
+{
+    skip(bytes, kind, MAX_NESTING)
 }

@@ -1,5 +1,5 @@
-use Rattle.std.proofs.Common.{refl, sym, ap, rules, arith, to_z-of_z, SFits, w16, ◌≡◌, ◌-◌, Some}
-use Rattle.thrift_compact.specs.Writers.{bytes_of, closing, finished, is_open, kind_left, last_of, left_of, outer_of}
+use Rattle.std.proofs.Common.{refl, ◌-◌}
+use Rattle.thrift_compact.specs.Writers.{bytes_of, finished, is_open, kind_left, last_of, left_of, outer_of}
 use Rattle.thrift_compact.specs.declared.writer.Open.{Open}
 use Rattle.thrift_compact.proofs.Written.{item_done}
 use Rattle.thrift_compact.proofs.writer.Writer.begin_item.Goals as goal

@@ -1,5 +1,4 @@
-use Rattle.std.proofs.Common.{refl, sym, arith, to_z-of_z}
-use Rattle.thrift_compact.specs.Writers.{bytes_of, closing, finished, is_open, kind_left, last_of, left_of, outer_of}
+use Rattle.thrift_compact.specs.Writers.{bytes_of, finished, is_open, kind_left, last_of, left_of, outer_of}
 use Rattle.thrift_compact.proofs.Written.{fresh}
 use Rattle.thrift_compact.proofs.writer.Writer.new.Goals as goal
 
