@@ -51,6 +51,6 @@ pub use numbers::{binary_at, i8_at, i32_at, i64_at};
 pub use page_headers::{DataHeader, DataHeaderV2, DictHeader, PageHeader, read_page_header};
 pub use page_writing::write_page_header;
 pub use reader::Reader;
-pub use skipping::pass;
+pub use skipping::{pass, pass_elements};
 pub use slots::Slot;
 pub use writer::Writer;

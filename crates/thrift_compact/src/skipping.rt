@@ -4,7 +4,7 @@ ghost use Rattle.std.specs.Prelude.{◌≡◌, ◌<◌, ◌≤◌, ◌^◌, leng
 ghost use Rattle.vs_bytes.specs.Outcome.{Gives};
 ghost use Rattle.thrift_compact.specs.Numbers.{byte, signed, bytes_at, binary};
 ghost use Rattle.thrift_compact.specs.Trees.{other, passed_over};
-ghost use Rattle.thrift_compact.specs.Skipping.{after, plain, element, elements, pairs, map_after, fields, map_of, list_of, container, skipped};
+ghost use Rattle.thrift_compact.specs.Skipping.{after, plain, element, elements, pairs, map_after, fields, map_of, list_of, container, max_nesting, skipped};
 
 use crate::headers::{field_at, is_type, list_at, map_size_at, map_types_at};
 use crate::numbers::{binary_at, byte_at, i16_at, i32_at, i64_at, part_at};
@@ -180,4 +180,11 @@ pub fn pass(bytes: &[u8], kind: u8) -> Result<&[u8], Rule>
     ensures { Gives (λ rest. (other, rest.now)) result (passed_over kind bytes.now) }
 {
     skip(bytes, kind, MAX_NESTING)
+}
+
+/// The bytes after the elements of a list whose element type isn't the one that is known.
+pub fn pass_elements(bytes: &[u8], kind: u8, size: u32) -> Result<&[u8], Rule>
+    ensures { Gives (λ r. r.now) result (elements (skipped max_nesting) kind size bytes.now) }
+{
+    skip_elements(bytes, kind, size, MAX_NESTING)
 }

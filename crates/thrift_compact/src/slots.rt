@@ -68,3 +68,15 @@ impl Slot<i32> {
         }
     }
 }
+
+impl Slot<i64> {
+    /// The value of a required count or size, which isn't negative.
+    pub fn counted(self) -> Option<i64>
+        ensures { result ≡ counted self }
+    {
+        match self {
+            Slot::Found(value) if 0 <= value => Some(value),
+            _ => None,
+        }
+    }
+}
