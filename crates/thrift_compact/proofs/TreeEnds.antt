@@ -1,13 +1,14 @@
 -- What is read by a table leaves the last bytes.
-use Rattle.std.proofs.Common.{◌≡◌, subst, ℕ, zero, suc, ◌≤◌, List, length, ℤ, pos, Option, None, Some, Result, Ok, Err, Bool}
+use Rattle.std.proofs.Common.{◌≡◌, subst, ℕ, zero, suc, ◌/◌, ◌%◌, ◌==◌, ◌<◌, List, [], ◌∷◌, length, ℤ, pos, Option, None, Some, Result, Ok, Err, Bool, arith}
 use Rattle.std.specs.Ordering.{int_eq}
 use Rattle.vs_bytes.specs.Outcome.{◌>>=◌}
 use Rattle.vs_bytes.specs.declared.rule.Rule.{Rule}
+use Rattle.vs_bytes.specs.declared.rule.Rule.TheVariants.{Thrift}
 use Rattle.thrift_compact.specs.Numbers.{Read, mapped, int8, signed, binary}
-use Rattle.thrift_compact.specs.Headers.{field, list}
+use Rattle.thrift_compact.specs.Headers.{field_id, field, list}
 use Rattle.thrift_compact.specs.Skipping.{max_nesting, elements, skipped}
-use Rattle.thrift_compact.specs.Trees.{Value, Fields, other, i8_value, i32_value, i64_value, binary_value, list_value, struct_value, with_element, with_field, Shape, Shapes, bools, i8s, i32s, i64s, binaries, lists, structs, unknown, known, is_of, is_element, FieldRead, passed_over, one_field, fields_at, struct_at, elements_at, list_at, shaped, known_at}
-use Rattle.thrift_compact.proofs.Ends.{Ends, Leaves, all_tail, tail_end, end_len, ends_then, ends_if, int8_ends, signed_ends, binary_ends, field_ends, list_ends, elements_leaves, skipped_leaves}
+use Rattle.thrift_compact.specs.Trees.{Value, Elements, Fields, other, bool_value, i8_value, i32_value, i64_value, binary_value, list_value, struct_value, with_element, with_field, Shape, Shapes, bools, i8s, i32s, i64s, binaries, lists, structs, unknown, known, is_of, is_element, FieldRead, passed_over, one_field, fields_at, struct_at, elements_at, list_at, shaped, known_at}
+use Rattle.thrift_compact.proofs.Ends.{Ends, Leaves, all_tail, tail_end, end_len, ends_then, ends_if, ends_within, id_ends, int8_ends, signed_ends, binary_ends, field_ends, list_ends, elements_leaves, skipped_leaves}
 
 mapped_ends : {A B : Type 0} (view : A → B) (read : Read A) (bytes : List ℕ) → Ends read bytes → Ends (mapped view read) bytes
 mapped_ends view (Ok a) bytes g = g
@@ -21,15 +22,15 @@ passed_ends : (kind : ℕ) (bytes : List ℕ) → Ends (passed_over kind bytes) 
 unfolding passed_over
 passed_ends kind bytes = other_ends (skipped 32 kind bytes) bytes (skipped_leaves 32 kind bytes)
 
+one_ends : (read : FieldRead) → ((id : ℤ) (kind : ℕ) (bytes : List ℕ) → Ends (read id kind bytes) bytes) → (more : ℤ → List ℕ → Read Fields) → ((id : ℤ) (rest : List ℕ) → Ends (more id rest) rest) → (head : Option (ℤ × ℕ)) (rest : List ℕ) → Ends (one_field read more head rest) rest
+one_ends read g more m None rest = all_tail rest
+one_ends read g more m (Some head) rest = ends_then (read head.0 head.1 rest) _ rest (g head.0 head.1 rest) (λ v. mapped_ends (with_field head.0 v.0) (more head.0 v.1) v.1 (m head.0 v.1))
+
 fields_end : (read : FieldRead) → ((id : ℤ) (kind : ℕ) (bytes : List ℕ) → Ends (read id kind bytes) bytes) → (most : ℕ) (last : ℤ) (bytes : List ℕ) → Ends (fields_at read most last bytes) bytes
 unfolding fields_at
 fields_end read g zero last bytes = tt
 fields_end read g (suc most) last bytes =
-    ends_then (field last bytes) _ bytes (field_ends last bytes) (λ f. each (fields_at read most) (fields_end read g most) f.0 f.1)
-  where
-    each : (more : ℤ → List ℕ → Read Fields) → ((id : ℤ) (rest : List ℕ) → Ends (more id rest) rest) → (head : Option (ℤ × ℕ)) (rest : List ℕ) → Ends (one_field read more head rest) rest
-    each more m None rest = all_tail rest
-    each more m (Some head) rest = ends_then (read head.0 head.1 rest) _ rest (g head.0 head.1 rest) (λ v. mapped_ends (with_field head.0 v.0) (more head.0 v.1) v.1 (m head.0 v.1))
+    ends_then (field last bytes) _ bytes (field_ends last bytes) (λ f. one_ends read g (fields_at read most) (fields_end read g most) f.0 f.1)
 
 elements_end : (read : List ℕ → Read Value) → ((bytes : List ℕ) → Ends (read bytes) bytes) → (size : ℕ) (bytes : List ℕ) → Ends (elements_at read size bytes) bytes
 unfolding elements_at
@@ -61,8 +62,27 @@ mutual
       (ends_if (is_of s kind) (shaped s kind bytes) (passed_over kind bytes) bytes (shaped_ends s kind bytes) (passed_ends kind bytes))
       (known_ends ss id kind bytes)
 
--- a struct takes no more bytes than there are
-pub struct_len : {A : Type 0} (view : Fields → A) (ss : Shapes) (bytes : List ℕ) (a : A) (rest : List ℕ) → mapped view (struct_at (known_at ss) bytes) ≡ Ok (a, rest) → length rest ≤ length bytes
-struct_len {A = A} view ss bytes a rest e =
-    let whole = mapped_ends view (struct_at (known_at ss) bytes) bytes (fields_end (known_at ss) (known_ends ss) (length bytes) (pos 0) bytes) in
-    end_len rest bytes (tail_end rest bytes (subst (λ (r : Read A). Ends r bytes) e whole))
+-- A struct takes a byte or more.
+
+field_takes : (last : ℤ) (first : ℕ) (bytes : List ℕ) → Ends (field last (first ∷ bytes)) bytes
+unfolding field
+field_takes last first bytes =
+    ends_if (first == 0) _ _ bytes (all_tail bytes)
+    (ends_then (field_id last (first / 16) bytes) _ bytes (id_ends last (first / 16) bytes) (λ id. ends_within _ (Some (id.0, first % 16)) id.1 id.1 (all_tail id.1)))
+
+struct_takes : (ss : Shapes) (first : ℕ) (bytes : List ℕ) → Ends (struct_at (known_at ss) (first ∷ bytes)) bytes
+unfolding fields_at
+struct_takes ss first bytes =
+    ends_then (field (pos 0) (first ∷ bytes)) _ bytes (field_takes (pos 0) first bytes)
+    (λ f. one_ends (known_at ss) (known_ends ss) (fields_at (known_at ss) (length bytes)) (fields_end (known_at ss) (known_ends ss) (length bytes)) f.0 f.1)
+
+never : {A F : Type 0} (fault : F) (a : A) → Err fault ≡ Ok a → ⊥
+never fault a e = let wrong : Err fault ≡ Ok a = e in cc
+
+pub struct_len : {A : Type 0} (view : Fields → A) (ss : Shapes) (bytes : List ℕ) (a : A) (rest : List ℕ) → mapped view (struct_at (known_at ss) bytes) ≡ Ok (a, rest) → length rest < length bytes
+unfolding fields_at
+struct_len {A = A} view ss [] a rest e = absurd (never Thrift (a, rest) e)
+struct_len {A = A} view ss (first ∷ bytes) a rest e =
+    let whole = mapped_ends view (struct_at (known_at ss) (first ∷ bytes)) bytes (struct_takes ss first bytes) in
+    let within = end_len rest bytes (tail_end rest bytes (subst (λ (r : Read A). Ends r bytes) e whole)) in
+    omega (arith, within)

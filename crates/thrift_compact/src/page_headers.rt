@@ -2,7 +2,7 @@
 //!
 //! The fields crc, index_page_header, statistics, is_sorted and is_compressed are passed over, and never written.
 
-ghost use Rattle.std.specs.Prelude.{◌≡◌, Option};
+ghost use Rattle.std.specs.Prelude.{◌≡◌, ◌≤◌, length, Option, IfOk};
 ghost use Rattle.vs_bytes.specs.Outcome.{Gives};
 ghost use Rattle.thrift_compact.specs.PageHeaders.{data_shapes, data_start, data_put, data_finish, dict_shapes, dict_start, dict_put, dict_finish, data_v2_shapes, data_v2_start, data_v2_put, data_v2_finish, page_shapes, page_start, page_put, page_finish, has_inner, with_inner, page_header};
 
@@ -341,6 +341,8 @@ fn has_inner(header: &PageHeader) -> bool
 #[tactic(auto, using(crate::proofs::TreeEnds::struct_len), unfolding(crate::specs::PageHeaders::page_header))]
 pub fn read_page_header(bytes: &[u8]) -> Result<(PageHeader, usize), Rule>
     ensures exact { Gives (λ r. r) result (page_header bytes.now) }
+    ensures least { IfOk result (λ r. 1 ≤ r.1) }
+    ensures within { IfOk result (λ r. r.1 ≤ length bytes.now) }
 {
     let (header, rest) = read_struct::<PageDraft>(bytes)?;
     match header {
