@@ -133,7 +133,7 @@ stretch_same : (ns : List ℕ) → take (stretch ns) ns ≡ replicate (stretch n
 unfolding stretch
 stretch_same ns = same_front (slice_index ns 0) ns
 
-stretch_within : (ns : List ℕ) → stretch ns ≤ length ns
+pub stretch_within : (ns : List ℕ) → stretch ns ≤ length ns
 unfolding stretch
 stretch_within ns = prefix_len-le-length (λ n. nat_eq n (slice_index ns 0)) ns
 
