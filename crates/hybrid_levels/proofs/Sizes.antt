@@ -1,10 +1,10 @@
 -- How many bytes numbers take.
-use Rattle.std.proofs.Common.{◌≡◌, refl, ℕ, zero, suc, ◌+◌, ◌-◌, ◌*◌, ◌/◌, ◌%◌, ◌<◌, ◌≤◌, nat_lt, nat_le, Bool, true, false, cond, List, [], ◌∷◌, ◌++◌, length, take, drop, ◌⊎◌, inl, inr, arith}
+use Rattle.std.proofs.Common.{◌≡◌, refl, ℕ, zero, suc, ◌+◌, ◌*◌, ◌/◌, ◌%◌, ◌<◌, ◌≤◌, nat_lt, nat_le, Bool, true, false, cond, List, [], ◌∷◌, ◌++◌, length, take, drop, ◌⊎◌, inl, inr, arith}
 use Rattle.std.proofs.lemmas.Bool.{cases_lt, leb-true}
-use Rattle.std.proofs.lemmas.List.{length-append, length-drop, nil_from_length}
+use Rattle.std.proofs.lemmas.List.{length-append, length-drop}
 use Rattle.byteorder.specs.Numbers.{length-bytes_low_first}
 use Rattle.vs_bytes.specs.Numbers.{number_bytes}
-use Rattle.vs_bytes.specs.PackedNumbers.{unpacked, packed}
+use Rattle.vs_bytes.specs.PackedNumbers.{packed}
 use Rattle.vs_bytes.proofs.PackedNumbers.{unpacked_len}
 use Rattle.hybrid_levels.specs.Written.{varint_bytes, run, group, stretch, piece, piece_count, pieces, encoded}
 use Rattle.hybrid_levels.proofs.ReadBack.{stretch_within}
