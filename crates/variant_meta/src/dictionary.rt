@@ -7,9 +7,13 @@ ghost use Rattle.variant_meta.specs.Dictionaries.{IsDictionary, count_bound, byt
 ghost use Rattle.variant_meta.specs.Names.{name_at, names_rise, place_of, AllBefore, NoneBefore};
 ghost use Rattle.variant_meta.specs.Written.{ends_from, numbers, written_size, written_header, metadata_of, coded_names};
 
+use crate::layout::VERSION;
 use crate::name_order::is_before;
 use std::marker::Model;
 use vs_bytes::{NoMemory, Text, append_number, width_of};
+
+// The bit of sorted_strings in byte 0.
+const SORTED: u8 = 16;
 
 /// Names in the order of their bytes, each once. The place of a name is its id.
 ///
@@ -171,7 +175,7 @@ fn header(size: usize) -> u8
     requires most { size ≤ 4 }
     ensures { result ≡ written_header size }
 {
-    17 + 64 * (size as u8 - 1)
+    VERSION + SORTED + 64 * (size as u8 - 1)
 }
 
 #[tactic(auto, using(vs_bytes::proofs::Growing::grows_on))]

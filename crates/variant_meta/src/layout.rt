@@ -5,6 +5,9 @@ ghost use Rattle.variant_meta.specs.Metadata.{version, sorted_strings, offset_si
 
 use vs_bytes::number_at;
 
+// The version that is read and written.
+pub(crate) const VERSION: u8 = 1;
+
 /// Metadata whose size and offsets are there.
 #[derive(Clone, Copy)]
 pub(crate) struct Layout<'a> {

@@ -9,12 +9,9 @@ ghost use Rattle.variant_meta.specs.Metadata.{sorted_strings, all_names, names};
 ghost use Rattle.variant_meta.specs.Names.{names_rise, name_at, place_of, is_before};
 
 use crate::held_names::HeldNames;
-use crate::layout::{Layout, sorted_strings, version};
+use crate::layout::{Layout, VERSION, sorted_strings, version};
 use crate::name_order::is_before;
 use vs_bytes::Rule;
-
-// The version that is read.
-const VERSION: u8 = 1;
 
 /// The metadata of a Variant, read in place. Bytes after the last name are passed over.
 #[derive(Clone, Copy)]
