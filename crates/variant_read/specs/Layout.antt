@@ -21,22 +21,10 @@
 -- Numbers are unsigned, the lowest byte first.
 use Rattle.std.specs.Prelude.{ℕ, ◌+◌, ◌*◌, ◌/◌, ◌%◌, ◌==◌, Bool, if◌then◌else◌, List, slice_index}
 use Rattle.vs_bytes.specs.Numbers.{number, part}
+use Rattle.variant_meta.specs.TypeIds.{object_type}
 
 unfoldable pub basic_type : List ℕ → ℕ
 basic_type bytes = slice_index bytes 0 % 4
-
--- the basic types
-abbrev pub primitive_type : ℕ
-primitive_type = 0
-
-abbrev pub short_string_type : ℕ
-short_string_type = 1
-
-abbrev pub object_type : ℕ
-object_type = 2
-
-abbrev pub array_type : ℕ
-array_type = 3
 
 unfoldable pub type_header : List ℕ → ℕ
 type_header bytes = slice_index bytes 0 / 4

@@ -5,7 +5,8 @@ use Rattle.vs_bytes.specs.Outcome.{◌>>=◌}
 use Rattle.vs_bytes.specs.declared.rule.Rule.{Rule}
 use Rattle.vs_bytes.specs.declared.rule.Rule.TheVariants.{ValueShort, ValueTooDeep, FieldId, FieldOrder, Offsets}
 use Rattle.variant_meta.specs.Names.{name_at, is_before}
-use Rattle.variant_read.specs.Layout.{basic_type, primitive_type, short_string_type, is_object, count, field_id, offset, region, container_size}
+use Rattle.variant_meta.specs.TypeIds.{primitive_type, short_string_type}
+use Rattle.variant_read.specs.Layout.{basic_type, is_object, count, field_id, offset, region, container_size}
 use Rattle.variant_read.specs.Primitives.{Meaning, Kind, unread_kind, primitive, short_string}
 use Rattle.variant_read.specs.Trees.{array_of, object_of}
 

@@ -20,6 +20,7 @@ use Rattle.json_tree.specs.Json as json
 use Rattle.vs_bytes.specs.Numbers.{number, part}
 use Rattle.vs_bytes.specs.declared.rule.Rule.{Rule}
 use Rattle.vs_bytes.specs.declared.rule.Rule.TheVariants.{ValueShort, TypeId, FloatLeftOut, KindNotRead, DecimalScale, DecimalDigits, TextUtf8}
+use Rattle.variant_meta.specs.TypeIds.{null_id, true_id, false_id, int8_id, int16_id, int32_id, int64_id, double_id, decimal4_id, decimal8_id, decimal16_id, float_id, string_id, last_type_id}
 use Rattle.variant_read.specs.Layout.{type_header}
 
 -- a value and how many bytes it has, or the first rule that they violate
@@ -32,10 +33,6 @@ max_scale = 38
 
 abbrev pub unscaled_bound : ℕ
 unscaled_bound = 10 ^ 38
-
--- the greatest type id of the standard
-abbrev pub last_type_id : ℕ
-last_type_id = 20
 
 -- A kind says what the bytes of a value mean.
 abbrev pub Kind : Type 0
@@ -77,25 +74,29 @@ text_at at len bytes =
 unfoldable pub short_string : Kind
 short_string bytes = text_at 1 (type_header bytes) bytes
 
+-- the bytes of the length of a string that isn't short
+abbrev pub string_len_size : ℕ
+string_len_size = 4
+
 unfoldable pub string_kind : Kind
-string_kind bytes = text_at 5 (number bytes 1 4) bytes
+string_kind bytes = text_at (1 + string_len_size) (number bytes 1 string_len_size) bytes
 
 -- the kind of a type id. Of the ids up to 20, the ones without a row aren't read
 unfoldable pub kind_of : ℕ → Kind
 kind_of id =
-    if id == 0 then constant_kind json.null
-    else if id == 1 then constant_kind (json.boolean true)
-    else if id == 2 then constant_kind (json.boolean false)
-    else if id == 3 then integer_kind 1
-    else if id == 4 then integer_kind 2
-    else if id == 5 then integer_kind 4
-    else if id == 6 then integer_kind 8
-    else if id == 7 then unread_kind FloatLeftOut
-    else if id == 8 then decimal_kind 4
-    else if id == 9 then decimal_kind 8
-    else if id == 10 then decimal_kind 16
-    else if id == 14 then unread_kind FloatLeftOut
-    else if id == 16 then string_kind
+    if id == null_id then constant_kind json.null
+    else if id == true_id then constant_kind (json.boolean true)
+    else if id == false_id then constant_kind (json.boolean false)
+    else if id == int8_id then integer_kind 1
+    else if id == int16_id then integer_kind 2
+    else if id == int32_id then integer_kind 4
+    else if id == int64_id then integer_kind 8
+    else if id == double_id then unread_kind FloatLeftOut
+    else if id == decimal4_id then decimal_kind 4
+    else if id == decimal8_id then decimal_kind 8
+    else if id == decimal16_id then decimal_kind 16
+    else if id == float_id then unread_kind FloatLeftOut
+    else if id == string_id then string_kind
     else if nat_le id last_type_id then unread_kind KindNotRead
     else unread_kind TypeId
 

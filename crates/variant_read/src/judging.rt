@@ -7,9 +7,9 @@ ghost use Rattle.variant_read.specs.Layout.{basic_type};
 ghost use Rattle.variant_read.specs.Meaning.{container, value_within, size_in};
 
 use crate::ids::run;
-use crate::layout::{Layout, PRIMITIVE_TYPE, SHORT_STRING_TYPE, basic_type};
+use crate::layout::{Layout, basic_type};
 use crate::primitives::{primitive, short_string};
-use variant_meta::MetaRef;
+use variant_meta::{MetaRef, PRIMITIVE_TYPE, SHORT_STRING_TYPE};
 use vs_bytes::{Rule, rest};
 
 // The length of the items with one more, which begins at `at`.

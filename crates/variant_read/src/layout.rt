@@ -4,14 +4,8 @@ ghost use Rattle.std.specs.Prelude.{◌≡◌, ◌+◌, ◌*◌, ◌<◌, ◌≤
 ghost use Rattle.vs_bytes.specs.Numbers.{number, IsPart};
 ghost use Rattle.variant_read.specs.Layout.{basic_type, type_header, is_object, is_large, offset_size, id_size, count_size, count, id_place, field_id, offset, fixed_size, last_offset, region, container_size};
 
+use variant_meta::OBJECT_TYPE;
 use vs_bytes::{Le, number_at, part};
-
-// The basic types.
-pub(crate) const PRIMITIVE_TYPE: u8 = 0;
-
-pub(crate) const SHORT_STRING_TYPE: u8 = 1;
-
-const OBJECT_TYPE: u8 = 2;
 
 /// An object or array that is there in full.
 #[derive(Clone, Copy)]

@@ -5,10 +5,10 @@ ghost use Rattle.variant_meta.specs.MetaRefs.{names_of, bytes_of};
 ghost use Rattle.variant_read.specs.Meaning.{container, value_within, json_in};
 ghost use Rattle.variant_read.specs.View.{json_of, scalar_json, LiesIn, ScalarLiesIn, HasMetadata};
 
-use crate::layout::{Layout, PRIMITIVE_TYPE, SHORT_STRING_TYPE, basic_type};
+use crate::layout::{Layout, basic_type};
 use crate::scalars::{opened_primitive, opened_short_string};
 use crate::views::{ArrayView, Container, ObjectView, Scalar, ValueRef};
-use variant_meta::MetaRef;
+use variant_meta::{MetaRef, PRIMITIVE_TYPE, SHORT_STRING_TYPE};
 
 #[tactic(auto, using(crate::proofs::Levels::container_fits, crate::proofs::Levels::container_items, crate::proofs::Levels::object_means, crate::proofs::Levels::array_means, crate::proofs::Inside::part_all), unfolding(crate::specs::View::elements_of, crate::specs::View::members_of, crate::specs::View::array_bytes, crate::specs::View::object_bytes, crate::specs::View::array_metadata, crate::specs::View::object_metadata))]
 fn opened_container<'a>(meta: MetaRef<'a>, bytes: &'a [u8], room: u8) -> ValueRef<'a>

@@ -11,12 +11,12 @@ ghost use Rattle.variant_read.specs.Layout.{is_object};
 ghost use Rattle.variant_read.specs.Meaning.{container, value_within, json_in};
 ghost use Rattle.variant_read.specs.View.{json_of, scalar_json};
 
-use crate::layout::{Layout, PRIMITIVE_TYPE, SHORT_STRING_TYPE, basic_type};
+use crate::layout::{Layout, basic_type};
 use crate::scalars::{opened_primitive, opened_short_string};
 use crate::views::{Scalar, ValueRef};
 use json_tree::{Items, Members, Tree};
 use std::alloc::Global;
-use variant_meta::MetaRef;
+use variant_meta::{MetaRef, PRIMITIVE_TYPE, SHORT_STRING_TYPE};
 use vs_bytes::{NoMemory, Text, rest};
 
 // The members of pairs whose names rise.
@@ -135,10 +135,10 @@ pub fn to_tree(alloc: Global, value: ValueRef) -> Result<Tree, NoMemory>
     ensures { IfOk result (λ tree. view tree ≡ json_of value.entry) }
 {
     match value {
-        ValueRef::Null => Ok(Tree::Null),
-        ValueRef::Bool(truth) => Ok(Tree::Bool(truth)),
-        ValueRef::Num(number) => Ok(Tree::Num(number)),
-        ValueRef::Text(text) => Ok(Tree::Text(Text::from_str(alloc, text)?)),
+        ValueRef::Null => scalar_tree(alloc, Scalar::Null),
+        ValueRef::Bool(truth) => scalar_tree(alloc, Scalar::Bool(truth)),
+        ValueRef::Num(number) => scalar_tree(alloc, Scalar::Num(number)),
+        ValueRef::Text(text) => scalar_tree(alloc, Scalar::Text(text)),
         ValueRef::Object(view) => Ok(Tree::Object(members(
             alloc,
             &view.of.meta,

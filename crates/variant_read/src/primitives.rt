@@ -1,13 +1,18 @@
 //! The values that hold no others: how many bytes each has, or the rule that it violates.
 
-ghost use Rattle.std.specs.Prelude.{◌≡◌, ◌<◌, ◌≤◌, ◌^◌, ℕ, List, length, nat_lt, if◌then◌else◌, Ok, Err};
+ghost use Rattle.std.specs.Prelude.{◌≡◌, ◌+◌, ◌<◌, ◌≤◌, ◌^◌, ℕ, List, length, nat_lt, if◌then◌else◌, Ok, Err};
 ghost use Rattle.std.specs.Str.{is_utf8};
 ghost use Rattle.vs_bytes.specs.declared.rule.Rule.TheVariants.{ValueShort};
+ghost use Rattle.variant_meta.specs.TypeIds.{int64_id, double_id, decimal16_id};
 ghost use Rattle.variant_read.specs.Meaning.{size_in};
-ghost use Rattle.variant_read.specs.Primitives.{decimal_kind, text_at, short_string, string_kind, kind_of, primitive};
+ghost use Rattle.variant_read.specs.Primitives.{decimal_kind, string_len_size, text_at, short_string, string_kind, kind_of, primitive};
 
 use crate::layout::type_header;
 use exact_num::Unscaled;
+use variant_meta::{
+    DECIMAL4_ID, DECIMAL8_ID, DECIMAL16_ID, DOUBLE_ID, FLOAT_ID, INT8_ID, INT16_ID, INT32_ID,
+    INT64_ID, LAST_TYPE_ID, STRING_ID,
+};
 use vs_bytes::{Rule, cut, is_utf8, number_at};
 
 // The greatest scale of a decimal.
@@ -16,24 +21,21 @@ const MAX_SCALE: u8 = 38;
 // An unscaled integer of a decimal is less, without its sign.
 const UNSCALED_BOUND: u128 = 100_000_000_000_000_000_000_000_000_000_000_000_000;
 
-// The greatest type id of null, booleans and integers.
-const LAST_PLAIN_ID: u8 = 6;
+// The bytes of the length of a string that isn't short.
+pub(crate) const STRING_LEN_SIZE: usize = 4;
 
-// The greatest type id of the standard.
-const LAST_TYPE_ID: u8 = 20;
-
-// How many bytes a value of type id 0 to 6 has: null, booleans and integers.
+// How many bytes null, booleans and integers have, the values of a type id up to that of int64.
 #[inline(always)]
 #[tactic(auto, unfolding(crate::specs::Primitives::kind_of, crate::specs::Primitives::constant_kind, crate::specs::Primitives::integer_kind))]
 fn plain_size(id: u8) -> usize
-    requires { id ≤ 6 }
+    requires { id ≤ int64_id }
     ensures { (bytes : List ℕ) → 0 < length bytes → size_in (kind_of id bytes) ≡ if nat_lt (length bytes) result then Err ValueShort else Ok result }
 {
     match id {
-        3 => 2,
-        4 => 3,
-        5 => 5,
-        6 => 9,
+        INT8_ID => 1 + 1,
+        INT16_ID => 1 + 2,
+        INT32_ID => 1 + 4,
+        INT64_ID => 1 + 8,
         _ => 1,
     }
 }
@@ -84,7 +86,7 @@ fn is_text(bytes: &[u8]) -> bool
 #[inline(always)]
 #[tactic(auto, unfolding(crate::specs::Primitives::text_at))]
 fn text(bytes: &[u8], at: usize, len: usize) -> Result<usize, Rule>
-    requires at { at ≤ 5 }
+    requires at { at ≤ 1 + string_len_size }
     requires len { len < 2 ^ 32 }
     ensures { result ≡ size_in (text_at at len bytes.now) }
 {
@@ -111,23 +113,24 @@ pub(crate) fn short_string(bytes: &[u8]) -> Result<usize, Rule>
 fn string(bytes: &[u8]) -> Result<usize, Rule>
     ensures { result ≡ size_in (string_kind bytes.now) }
 {
-    if bytes.len() < 5 {
+    if bytes.len() < 1 + STRING_LEN_SIZE {
         return Err(Rule::ValueShort);
     }
-    text(bytes, 5, number_at(bytes, 1, 4) as usize)
+    let len = number_at(bytes, 1, STRING_LEN_SIZE) as usize;
+    text(bytes, 1 + STRING_LEN_SIZE, len)
 }
 
-// The kinds of type id 10 and above.
+// The kinds of the type id of decimal16 and above.
 #[inline(never)]
 #[tactic(auto, unfolding(crate::specs::Primitives::kind_of, crate::specs::Primitives::unread_kind))]
 fn rare_kind(bytes: &[u8], id: u8) -> Result<usize, Rule>
-    requires { 10 ≤ id }
+    requires { decimal16_id ≤ id }
     ensures { result ≡ size_in (kind_of id bytes.now) }
 {
     match id {
-        10 => wide_decimal(bytes),
-        14 => Err(Rule::FloatLeftOut),
-        16 => string(bytes),
+        DECIMAL16_ID => wide_decimal(bytes),
+        FLOAT_ID => Err(Rule::FloatLeftOut),
+        STRING_ID => string(bytes),
         _ => {
             if id <= LAST_TYPE_ID {
                 Err(Rule::KindNotRead)
@@ -138,17 +141,17 @@ fn rare_kind(bytes: &[u8], id: u8) -> Result<usize, Rule>
     }
 }
 
-// The kinds of type id 7 and above.
+// The kinds of the type id of double and above.
 #[inline(always)]
 #[tactic(auto, unfolding(crate::specs::Primitives::kind_of, crate::specs::Primitives::unread_kind))]
 fn other_kind(bytes: &[u8], id: u8) -> Result<usize, Rule>
-    requires { 7 ≤ id }
+    requires { double_id ≤ id }
     ensures { result ≡ size_in (kind_of id bytes.now) }
 {
     match id {
-        7 => Err(Rule::FloatLeftOut),
-        8 => small_decimal(bytes, 4),
-        9 => small_decimal(bytes, 8),
+        DOUBLE_ID => Err(Rule::FloatLeftOut),
+        DECIMAL4_ID => small_decimal(bytes, 4),
+        DECIMAL8_ID => small_decimal(bytes, 8),
         _ => rare_kind(bytes, id),
     }
 }
@@ -160,7 +163,7 @@ pub(crate) fn primitive(bytes: &[u8]) -> Result<usize, Rule>
     ensures { result ≡ size_in (primitive bytes.now) }
 {
     let id = type_header(bytes);
-    if id > LAST_PLAIN_ID {
+    if id > INT64_ID {
         return other_kind(bytes, id);
     }
     let size = plain_size(id);

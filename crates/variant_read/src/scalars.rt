@@ -9,8 +9,13 @@ ghost use Rattle.variant_read.specs.Meaning.{json_in};
 ghost use Rattle.variant_read.specs.View.{scalar_json, ScalarLiesIn};
 
 use crate::layout::type_header;
+use crate::primitives::STRING_LEN_SIZE;
 use crate::views::Scalar;
 use exact_num::{Number, Unscaled};
+use variant_meta::{
+    DECIMAL4_ID, DECIMAL8_ID, DECIMAL16_ID, FALSE_ID, INT8_ID, INT16_ID, INT32_ID, INT64_ID,
+    NULL_ID, STRING_ID, TRUE_ID,
+};
 use vs_bytes::{number_at, part};
 
 #[tactic(auto, using(crate::proofs::Judged::integer_there, crate::proofs::Judged::integer_means, crate::proofs::Judged::integer_digits), unfolding(crate::specs::Primitives::decimal))]
@@ -61,7 +66,8 @@ fn string(bytes: &[u8]) -> &str
     ensures value { json_in (string_kind bytes.now) ≡ Ok (text result.now) }
     ensures inside { IsPart result.now bytes.now }
 {
-    text(bytes, 5, number_at(bytes, 1, 4) as usize)
+    let len = number_at(bytes, 1, STRING_LEN_SIZE) as usize;
+    text(bytes, 1 + STRING_LEN_SIZE, len)
 }
 
 #[inline(always)]
@@ -72,17 +78,17 @@ fn opened_kind(bytes: &[u8], id: u8) -> Scalar<'_>
     ensures inside { ScalarLiesIn result bytes.now }
 {
     match id {
-        0 => Scalar::Null,
-        1 => Scalar::Bool(true),
-        2 => Scalar::Bool(false),
-        3 => Scalar::Num(integer::<1>(bytes)),
-        4 => Scalar::Num(integer::<2>(bytes)),
-        5 => Scalar::Num(integer::<4>(bytes)),
-        6 => Scalar::Num(integer::<8>(bytes)),
-        8 => Scalar::Num(decimal::<4>(bytes)),
-        9 => Scalar::Num(decimal::<8>(bytes)),
-        10 => Scalar::Num(decimal::<16>(bytes)),
-        16 => Scalar::Text(string(bytes)),
+        NULL_ID => Scalar::Null,
+        TRUE_ID => Scalar::Bool(true),
+        FALSE_ID => Scalar::Bool(false),
+        INT8_ID => Scalar::Num(integer::<1>(bytes)),
+        INT16_ID => Scalar::Num(integer::<2>(bytes)),
+        INT32_ID => Scalar::Num(integer::<4>(bytes)),
+        INT64_ID => Scalar::Num(integer::<8>(bytes)),
+        DECIMAL4_ID => Scalar::Num(decimal::<4>(bytes)),
+        DECIMAL8_ID => Scalar::Num(decimal::<8>(bytes)),
+        DECIMAL16_ID => Scalar::Num(decimal::<16>(bytes)),
+        STRING_ID => Scalar::Text(string(bytes)),
         _ => unreachable!(),
     }
 }
