@@ -2,18 +2,13 @@
 
 ghost use Rattle.std.specs.Prelude.{◌≡◌, ◌<◌, ◌≤◌, IfSome, length};
 ghost use Rattle.vs_bytes.specs.Outcome.{Finds};
-ghost use Rattle.variant_meta.specs.Names.{name_at, is_before, place_of, AllBefore, NoneBefore};
+ghost use Rattle.variant_meta.specs.Names.{name_at, place_of, AllBefore, NoneBefore};
 ghost use Rattle.variant_read.specs.Items.{member_names};
 ghost use Rattle.variant_read.specs.Trees.{member_named};
 ghost use Rattle.variant_read.specs.View.{members_of, json_of, object_bytes, object_metadata, LiesIn, HasMetadata};
 
 use crate::views::{ObjectRef, ValueRef};
-
-fn is_before(name: &[u8], other: &[u8]) -> bool
-    ensures { result ≡ is_before name.now other.now }
-{
-    name.cmp(other).is_lt()
-}
+use variant_meta::is_before;
 
 impl<'a, const OW: usize, const IW: usize> ObjectRef<'a, OW, IW> {
     #[tactic(auto, using(crate::proofs::Members::held_members_len, crate::proofs::Members::id_known, crate::proofs::Members::member_name_at), unfolding(crate::specs::View::members_of))]
