@@ -8,7 +8,7 @@ use Rattle.vs_bytes.specs.Outcome.{◌>>=◌}
 use Rattle.vs_bytes.specs.declared.rule.Rule.{Rule}
 use Rattle.vs_bytes.specs.declared.rule.Rule.TheVariants.{ValueShort, ValueTooDeep, FieldId, FieldOrder, Offsets}
 use Rattle.variant_meta.specs.Names.{name_at, is_before}
-use Rattle.variant_read.specs.Judging.{used_with, size_from, allowed_id, AllAllowed, IsRun}
+use Rattle.variant_read.specs.Judging.{used_with, size_from, allowed_id, AllAllowed, IdsJudged}
 use Rattle.variant_read.specs.Layout.{basic_type, is_object, count, field_id, offset, region, fixed_size, last_offset, container_size}
 use Rattle.variant_read.specs.Primitives.{Kind, Meaning, primitive, short_string, unread_kind}
 use Rattle.variant_read.specs.Meaning.{field_name, field_fault, entries_from, entries, unless_fault, items_at, with_items, container, size_in, by_basic_type, value_of, value_within}
@@ -72,22 +72,22 @@ item_passed value names bytes k used all whole start inside allowed with = start
 pub item_failed : (value : Kind) (names : List (List ℕ)) (bytes : List ℕ) (k used : ℕ) (rule : Rule) (whole : Result ℕ Rule) → whole ≡ size_from value names bytes k used → k < count bytes → field_fault names bytes k ≡ None → used_with value (region bytes) used (offset bytes k) ≡ Err rule → whole ≡ Err rule
 item_failed value names bytes k used rule whole start inside allowed with = start ∙ turned value names bytes k used inside ∙ rw (allowed, with) refl
 
--- The run of items whose ids violate no rule.
+-- The first items, whose ids violate no rule.
 
-pub run_whole : (names : List (List ℕ)) (bytes : List ℕ) (len size : ℕ) → len ≡ count bytes → size ≡ container_size bytes → AllAllowed names bytes len → IsRun names bytes len (Ok size)
-run_whole names bytes len size all is good = record {
+pub judged_whole : (names : List (List ℕ)) (bytes : List ℕ) (len size : ℕ) → len ≡ count bytes → size ≡ container_size bytes → AllAllowed names bytes len → IdsJudged names bytes len (Ok size)
+judged_whole names bytes len size all is good = record {
   most = omega (arith, all);
   allowed = good;
   after = λ value used. size_end value names bytes len used (omega (arith, all)) ∙ ap (λ (n : ℕ). Ok n) (sym is);
 }
 
-pub run_array : (names : List (List ℕ)) (bytes : List ℕ) (len size : ℕ) → is_object bytes ≡ false → len ≡ count bytes → size ≡ container_size bytes → IsRun names bytes len (Ok size)
+pub judged_array : (names : List (List ℕ)) (bytes : List ℕ) (len size : ℕ) → is_object bytes ≡ false → len ≡ count bytes → size ≡ container_size bytes → IdsJudged names bytes len (Ok size)
 unfolding field_fault
-run_array names bytes len size array all is = run_whole names bytes len size all is (λ j h. rw array refl)
+judged_array names bytes len size array all is = judged_whole names bytes len size all is (λ j h. rw array refl)
 
-pub run_broken : (names : List (List ℕ)) (bytes : List ℕ) (k : ℕ) (rule : Rule) → k < count bytes → AllAllowed names bytes k → allowed_id names bytes k ≡ Err rule → IsRun names bytes k (Err rule)
+pub judged_broken : (names : List (List ℕ)) (bytes : List ℕ) (k : ℕ) (rule : Rule) → k < count bytes → AllAllowed names bytes k → allowed_id names bytes k ≡ Err rule → IdsJudged names bytes k (Err rule)
 unfolding allowed_id
-run_broken names bytes k rule inside good bad = record {
+judged_broken names bytes k rule inside good bad = record {
   most = omega (arith, inside);
   allowed = good;
   after = λ value used. turned value names bytes k used inside ∙ by (field_fault names bytes k) bad (from_item value names bytes k used);

@@ -27,8 +27,8 @@ allowed_id names bytes k = unless_fault (field_fault names bytes k) >>= λ _. Ok
 abbrev pub AllAllowed : List (List ℕ) → List ℕ → ℕ → Type 0
 AllAllowed names bytes len = (j : ℕ) → j < len → field_fault names bytes j ≡ None
 
--- the first items whose ids violate no rule, and what comes of the whole once these are judged
-pub record IsRun (names : List (List ℕ)) (bytes : List ℕ) (len : ℕ) (end : Result ℕ Rule) : Type 0 where
+-- the ids of the first items violate no rule, and the whole is `end` once the values of these are judged too
+pub record IdsJudged (names : List (List ℕ)) (bytes : List ℕ) (len : ℕ) (end : Result ℕ Rule) : Type 0 where
   pub most : len ≤ count bytes
   pub allowed : AllAllowed names bytes len
   pub after : (value : Kind) (used : ℕ) → size_from value names bytes len used ≡ end

@@ -2,7 +2,7 @@
 
 ghost use Rattle.std.specs.Prelude.{◌≡◌, ◌<◌, ◌-◌, length, true, IfOk};
 ghost use Rattle.variant_meta.specs.MetaRefs.{names_of};
-ghost use Rattle.variant_read.specs.Judging.{allowed_id, IsRun};
+ghost use Rattle.variant_read.specs.Judging.{allowed_id, IdsJudged};
 ghost use Rattle.variant_read.specs.Layout.{field_id, id_size};
 
 use crate::layout::Layout;
@@ -40,12 +40,12 @@ fn field_id<const IW: usize>(
     }
 }
 
-// How many fields have ids that violate no rule, and the rule of the next one, or the size of the object.
-#[tactic(auto, using(crate::proofs::Walk::run_broken, crate::proofs::Walk::run_whole, crate::proofs::Walk::one_more, crate::proofs::Walk::id_given))]
-fn run_of_fields<const IW: usize>(meta: &MetaRef, layout: Layout) -> (usize, Result<usize, Rule>)
+// The same of an object whose ids have `IW` bytes.
+#[tactic(auto, using(crate::proofs::Walk::judged_broken, crate::proofs::Walk::judged_whole, crate::proofs::Walk::one_more, crate::proofs::Walk::id_given))]
+fn judge_field_ids<const IW: usize>(meta: &MetaRef, layout: Layout) -> (usize, Result<usize, Rule>)
     requires object { layout.object ≡ true }
     requires width { id_size layout.bytes.now ≡ IW }
-    ensures { IsRun (names_of meta.now) layout.entry.bytes.now result.0 result.1 }
+    ensures { IdsJudged (names_of meta.now) layout.entry.bytes.now result.0 result.1 }
 {
     let mut before = 0;
     for k in 0..layout.len {
@@ -57,18 +57,19 @@ fn run_of_fields<const IW: usize>(meta: &MetaRef, layout: Layout) -> (usize, Res
     (layout.len, Ok(layout.size()))
 }
 
-/// How many items have no id that violates a rule, and what comes of the whole once these are judged.
-#[tactic(auto, using(crate::proofs::Walk::run_array))]
-pub(crate) fn run(meta: &MetaRef, layout: Layout) -> (usize, Result<usize, Rule>)
-    ensures { IsRun (names_of meta.now) layout.entry.bytes.now result.0 result.1 }
+/// Judges the ids of all fields, up to the first that violates a rule. Answers how many there are before it, and
+/// what the whole is once their values are judged too: its size, or that rule. An array has no ids.
+#[tactic(auto, using(crate::proofs::Walk::judged_array))]
+pub(crate) fn judge_ids(meta: &MetaRef, layout: Layout) -> (usize, Result<usize, Rule>)
+    ensures { IdsJudged (names_of meta.now) layout.entry.bytes.now result.0 result.1 }
 {
     if !layout.object {
         return (layout.len, Ok(layout.size()));
     }
     match layout.id_width {
-        1 => run_of_fields::<1>(meta, layout),
-        2 => run_of_fields::<2>(meta, layout),
-        3 => run_of_fields::<3>(meta, layout),
-        _ => run_of_fields::<4>(meta, layout),
+        1 => judge_field_ids::<1>(meta, layout),
+        2 => judge_field_ids::<2>(meta, layout),
+        3 => judge_field_ids::<3>(meta, layout),
+        _ => judge_field_ids::<4>(meta, layout),
     }
 }

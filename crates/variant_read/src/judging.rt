@@ -2,11 +2,11 @@
 
 ghost use Rattle.std.specs.Prelude.{◌≡◌, ◌<◌, ◌≤◌, length, IfOk};
 ghost use Rattle.variant_meta.specs.MetaRefs.{names_of};
-ghost use Rattle.variant_read.specs.Judging.{used_with, IsRun};
+ghost use Rattle.variant_read.specs.Judging.{used_with, IdsJudged};
 ghost use Rattle.variant_read.specs.Layout.{basic_type};
 ghost use Rattle.variant_read.specs.Meaning.{container, value_within, size_in};
 
-use crate::ids::run;
+use crate::ids::judge_ids;
 use crate::layout::{Layout, basic_type};
 use crate::primitives::{primitive, short_string};
 use variant_meta::{MetaRef, PRIMITIVE_TYPE, SHORT_STRING_TYPE};
@@ -42,7 +42,7 @@ fn items(
     end: Result<usize, Rule>,
     room: u8,
 ) -> Result<usize, Rule>
-    requires { IsRun (names_of meta.now) layout.bytes.now len end }
+    requires { IdsJudged (names_of meta.now) layout.bytes.now len end }
     ensures { result ≡ size_in (container (names_of meta.now) (value_within (names_of meta.now) room) layout.entry.bytes.now) }
 {
     let region = layout.region();
@@ -70,7 +70,7 @@ fn container(meta: &MetaRef, bytes: &[u8], room: u8) -> Result<usize, Rule>
     let Some(layout) = Layout::of(bytes) else {
         return Err(Rule::ValueShort);
     };
-    let (len, end) = run(meta, layout);
+    let (len, end) = judge_ids(meta, layout);
     items(meta, layout, len, end, room - 1)
 }
 

@@ -2,7 +2,7 @@ use Rattle.std.proofs.Common.{◌≡◌, ◌-◌, ◌<◌, length}
 use Rattle.variant_meta.specs.MetaRefs.{names_of}
 use Rattle.variant_read.specs.Judging.{AllAllowed}
 use Rattle.variant_read.specs.Layout.{field_id}
-use Rattle.variant_read.proofs.ids.run_of_fields.Given as goal
+use Rattle.variant_read.proofs.ids.judge_field_ids.Given as goal
 
 abbrev pub invariant-loop-k : goal.invariant-loop-k
 invariant-loop-k g l = record {
