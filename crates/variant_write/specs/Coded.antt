@@ -3,6 +3,7 @@ use Rattle.std.specs.Prelude.{ℕ, max, true, false, if◌then◌else◌, List, 
 use Rattle.json_tree.specs.Json.{Json, null, boolean, number, text, array, object, Parts, no_parts, part, Fields, no_fields, field, names_of}
 use Rattle.vs_bytes.specs.Numbers.{width_of}
 use Rattle.variant_meta.specs.Names.{place_of}
+use Rattle.variant_meta.specs.TypeIds.{null_id, true_id, false_id}
 use Rattle.variant_write.specs.Layout.{composed}
 use Rattle.variant_write.specs.Primitives.{primitive_head, decimal_coded, text_coded}
 use Rattle.variant_write.specs.declared.widths.Widths.{Widths}
@@ -22,8 +23,8 @@ id_size least ids = max least (width_of (greatest ids))
 -- the bytes of a value
 unfoldable mutual
   pub coded : List (List ℕ) → Json → Widths → List ℕ
-  coded names null widths = primitive_head 0 ∷ []
-  coded names (boolean b) widths = (if b then primitive_head 1 else primitive_head 2) ∷ []
+  coded names null widths = primitive_head null_id ∷ []
+  coded names (boolean b) widths = (if b then primitive_head true_id else primitive_head false_id) ∷ []
   coded names (number d) widths = decimal_coded d
   coded names (text s) widths = text_coded s
   coded names (array elements) widths = composed false widths.offset 0 [] (elements_coded names elements widths)

@@ -3,6 +3,7 @@
 use Rattle.std.specs.Prelude.{ℕ, ◌+◌, ◌-◌, ◌*◌, max, nat_lt, Bool, if◌then◌else◌, List, ◌∷◌, ◌++◌, length}
 use Rattle.std.specs.List.{concat}
 use Rattle.vs_bytes.specs.Numbers.{number_bytes, width_of}
+use Rattle.variant_meta.specs.TypeIds.{object_type, array_type}
 use Rattle.variant_meta.specs.Written.{numbers, ends_from}
 
 -- counts above this one have 4 bytes
@@ -21,8 +22,8 @@ large_bit count = if is_large count then 1 else 0
 -- byte 0. An array has no ids
 unfoldable pub head : Bool → ℕ → ℕ → ℕ → ℕ
 head is_object offset_size id_size count =
-    if is_object then 2 + 4 * ((offset_size - 1) + (4 * (id_size - 1) + 16 * large_bit count))
-    else 3 + 4 * ((offset_size - 1) + 4 * large_bit count)
+    if is_object then object_type + 4 * ((offset_size - 1) + (4 * (id_size - 1) + 16 * large_bit count))
+    else array_type + 4 * ((offset_size - 1) + 4 * large_bit count)
 
 -- an object or array: byte 0, count, ids, offsets, items. `ends` tells where each item ends among all of them. An
 -- array has no ids: `ids` is [] and their size 0

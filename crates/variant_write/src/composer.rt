@@ -6,6 +6,7 @@ ghost use Rattle.variant_meta.specs.Written.{numbers};
 ghost use Rattle.variant_write.specs.Conditions.{max_width, RiseTo};
 ghost use Rattle.variant_write.specs.Layout.{count_bytes, head, large_bit, packed};
 
+use variant_meta::{ARRAY_TYPE, OBJECT_TYPE};
 use vs_bytes::{Le, NoMemory};
 
 // Counts above this one have 4 bytes.
@@ -122,7 +123,7 @@ impl<const OW: usize, const IW: usize> Composer<OW, IW> {
         requires id_most { IW ≤ max_width }
         ensures { result ≡ head true OW IW count }
     {
-        2 + 4 * (OW as u8 - 1 + 4 * (IW as u8 - 1) + 16 * large_bit(count))
+        OBJECT_TYPE + 4 * (OW as u8 - 1 + 4 * (IW as u8 - 1) + 16 * large_bit(count))
     }
 
     #[tactic(auto, unfolding(crate::specs::Layout::head))]
@@ -131,7 +132,7 @@ impl<const OW: usize, const IW: usize> Composer<OW, IW> {
         requires offset_most { OW ≤ max_width }
         ensures { result ≡ head false OW 0 count }
     {
-        3 + 4 * (OW as u8 - 1 + 4 * large_bit(count))
+        ARRAY_TYPE + 4 * (OW as u8 - 1 + 4 * large_bit(count))
     }
 }
 

@@ -6,33 +6,15 @@ ghost use Rattle.std.specs.Prelude.{◌≡◌, ◌≤◌, ◌<◌, ◌^◌, ◌+
 ghost use Rattle.exact_num.specs.NumberOf.{decimal_of};
 ghost use Rattle.exact_num.specs.Unscaled.{FitsBytes, reach};
 ghost use Rattle.vs_bytes.specs.Outcome.{Grows};
+ghost use Rattle.variant_meta.specs.TypeIds.{null_id, true_id, false_id};
 ghost use Rattle.variant_write.specs.Primitives.{primitive_head, integer_bytes, decimal_bytes, whole_bytes, fraction_bytes, decimal_coded, text_coded};
 
 use exact_num::{Number, Unscaled};
+use variant_meta::{
+    DECIMAL4_ID, DECIMAL8_ID, DECIMAL16_ID, FALSE_ID, INT8_ID, INT16_ID, INT32_ID, INT64_ID,
+    NULL_ID, PRIMITIVE_TYPE, SHORT_STRING_TYPE, STRING_ID, TRUE_ID,
+};
 use vs_bytes::{Le, NoMemory};
-
-// The type ids.
-const NULL: u8 = 0;
-
-const TRUE: u8 = 1;
-
-const FALSE: u8 = 2;
-
-const INT8: u8 = 3;
-
-const INT16: u8 = 4;
-
-const INT32: u8 = 5;
-
-const INT64: u8 = 6;
-
-const DECIMAL4: u8 = 8;
-
-const DECIMAL8: u8 = 9;
-
-const DECIMAL16: u8 = 10;
-
-const STRING: u8 = 16;
 
 // The longest text that is written as a short string.
 const MAX_SHORT_STRING: usize = 63;
@@ -42,27 +24,27 @@ fn append_head(into: &mut Vec<u8>, type_id: u8) -> Result<(), NoMemory>
     ensures ok { OnOk result (into.new.items ≡ into.old.items ++ primitive_head type_id ∷ []) }
     ensures grows { Grows into.old.items into.new.items }
 {
-    into.push(4 * type_id)?;
+    into.push(PRIMITIVE_TYPE + 4 * type_id)?;
     Ok(())
 }
 
 /// Appends null.
 pub(crate) fn append_null(into: &mut Vec<u8>) -> Result<(), NoMemory>
-    ensures ok { OnOk result (into.new.items ≡ into.old.items ++ primitive_head 0 ∷ []) }
+    ensures ok { OnOk result (into.new.items ≡ into.old.items ++ primitive_head null_id ∷ []) }
     ensures grows { Grows into.old.items into.new.items }
 {
-    append_head(into, NULL)
+    append_head(into, NULL_ID)
 }
 
 /// Appends a boolean.
 pub(crate) fn append_bool(into: &mut Vec<u8>, truth: bool) -> Result<(), NoMemory>
-    ensures ok { OnOk result (into.new.items ≡ into.old.items ++ (if truth then primitive_head 1 else primitive_head 2) ∷ []) }
+    ensures ok { OnOk result (into.new.items ≡ into.old.items ++ (if truth then primitive_head true_id else primitive_head false_id) ∷ []) }
     ensures grows { Grows into.old.items into.new.items }
 {
     if truth {
-        append_head(into, TRUE)
+        append_head(into, TRUE_ID)
     } else {
-        append_head(into, FALSE)
+        append_head(into, FALSE_ID)
     }
 }
 
@@ -123,15 +105,15 @@ fn append_whole(into: &mut Vec<u8>, number: Number) -> Result<(), NoMemory>
 {
     let reach = reach(number);
     if reach < 0x80 {
-        append_integer::<1>(into, INT8, number)
+        append_integer::<1>(into, INT8_ID, number)
     } else if reach < 0x8000 {
-        append_integer::<2>(into, INT16, number)
+        append_integer::<2>(into, INT16_ID, number)
     } else if reach < 0x8000_0000 {
-        append_integer::<4>(into, INT32, number)
+        append_integer::<4>(into, INT32_ID, number)
     } else if reach < 0x8000_0000_0000_0000 {
-        append_integer::<8>(into, INT64, number)
+        append_integer::<8>(into, INT64_ID, number)
     } else {
-        append_decimal::<16>(into, DECIMAL16, number)
+        append_decimal::<16>(into, DECIMAL16_ID, number)
     }
 }
 
@@ -143,11 +125,11 @@ fn append_fraction(into: &mut Vec<u8>, number: Number) -> Result<(), NoMemory>
 {
     let size = number.unscaled().unsigned_abs();
     if size < 1_000_000_000 {
-        append_decimal::<4>(into, DECIMAL4, number)
+        append_decimal::<4>(into, DECIMAL4_ID, number)
     } else if size < 1_000_000_000_000_000_000 {
-        append_decimal::<8>(into, DECIMAL8, number)
+        append_decimal::<8>(into, DECIMAL8_ID, number)
     } else {
-        append_decimal::<16>(into, DECIMAL16, number)
+        append_decimal::<16>(into, DECIMAL16_ID, number)
     }
 }
 
@@ -172,9 +154,9 @@ pub(crate) fn append_text(into: &mut Vec<u8>, text: &[u8]) -> Result<(), NoMemor
     ensures grows { Grows into.old.items into.new.items }
 {
     if text.len() <= MAX_SHORT_STRING {
-        into.push(1 + 4 * text.len() as u8)?;
+        into.push(SHORT_STRING_TYPE + 4 * text.len() as u8)?;
     } else {
-        append_head(into, STRING)?;
+        append_head(into, STRING_ID)?;
         Le::<4>::write(into, text.len() as u32)?;
     }
     into.extend_from_slice(text)?;
