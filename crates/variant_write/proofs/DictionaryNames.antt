@@ -7,8 +7,8 @@ use Rattle.json_tree.specs.Text.{text_of}
 use Rattle.json_tree.specs.Valid.{IsValid, AreValid, HoldValid}
 use Rattle.variant_meta.specs.Dictionaries.{IsDictionary}
 use Rattle.variant_meta.specs.Names.{is_before, names_rise}
-use Rattle.variant_write.specs.Conditions.{max_text_len, HasNames, ElementsHaveNames, FieldsHaveNames, object_names, elements_names, fields_names}
-use Rattle.variant_write.specs.Dictionaries.{added, each_once, dictionary}
+use Rattle.variant_write.specs.Conditions.{max_text_len, HasNames, ElementsHaveNames, FieldsHaveNames}
+use Rattle.variant_write.specs.Dictionaries.{object_names, elements_names, fields_names, added, each_once, dictionary}
 use Rattle.variant_write.proofs.NameLimits.{names_few, names_small}
 use Rattle.variant_write.proofs.NamesAmong.{Among, among_from_contains, contains_from_among, among_left, among_right, has_name}
 use Rattle.variant_write.proofs.Rising.{once_rises, once_keeps, once_only, once_is}

@@ -5,7 +5,8 @@ use Rattle.std.proofs.lemmas.List.Folds.{concat-append}
 use Rattle.json_tree.specs.Json.{Json, null, boolean, number, text, array, object, Parts, no_parts, part, Fields, no_fields, field}
 use Rattle.json_tree.specs.Text.{text_of, more_parts, more_fields}
 use Rattle.variant_meta.specs.Dictionaries.{count_bound, bytes_bound}
-use Rattle.variant_write.specs.Conditions.{max_text_len, object_names, elements_names, fields_names}
+use Rattle.variant_write.specs.Conditions.{max_text_len}
+use Rattle.variant_write.specs.Dictionaries.{object_names, elements_names, fields_names}
 use Rattle.variant_write.proofs.SizeLaw.{array_text, object_text, part_text, field_text}
 
 joined_len : (xs ys : List (List ℕ)) → length (concat (xs ++ ys)) ≡ length (concat xs) + length (concat ys)

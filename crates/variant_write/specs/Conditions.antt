@@ -1,12 +1,12 @@
 -- What the writers ask of a JSON value, a dictionary and the widths.
-use Rattle.std.specs.Prelude.{◌≡◌, ℕ, ◌≤◌, ◌<◌, List, [], ◌∷◌, ◌++◌, length}
+use Rattle.std.specs.Prelude.{◌≡◌, ℕ, ◌^◌, ◌≤◌, ◌<◌, List, [], ◌∷◌, length}
 use Rattle.json_tree.specs.Json.{Json, null, boolean, number, text, array, object, Parts, no_parts, part, Fields, no_fields, field}
 use Rattle.variant_meta.specs.Names.{place_of}
 use Rattle.variant_write.specs.declared.widths.Widths.{Widths}
 
--- the longest canonical text of a value that is written
+-- the longest canonical text of a value that is written: 16 MiB
 abbrev pub max_text_len : ℕ
-max_text_len = 16777216
+max_text_len = 2 ^ 24
 
 -- the greatest width of a number
 abbrev pub max_width : ℕ
@@ -45,21 +45,3 @@ abbrev mutual
   pub FieldsHaveNames : List (List ℕ) → Fields → Type 0
   FieldsHaveNames names no_fields = Unit {0}
   FieldsHaveNames names (field name j fields) = HasName names name × HasNames names j × FieldsHaveNames names fields
-
--- the names of all objects in a value
-abbrev mutual
-  pub object_names : Json → List (List ℕ)
-  object_names null = []
-  object_names (boolean b) = []
-  object_names (number d) = []
-  object_names (text s) = []
-  object_names (array elements) = elements_names elements
-  object_names (object fields) = fields_names fields
-
-  pub elements_names : Parts → List (List ℕ)
-  elements_names no_parts = []
-  elements_names (part j elements) = object_names j ++ elements_names elements
-
-  pub fields_names : Fields → List (List ℕ)
-  fields_names no_fields = []
-  fields_names (field name j fields) = name ∷ (object_names j ++ fields_names fields)

@@ -4,8 +4,8 @@ ghost use Rattle.std.specs.Prelude.{◌≡◌, ◌≤◌, ◌++◌, length, map,
 ghost use Rattle.json_tree.specs.Json.{parts_of, fields_of};
 ghost use Rattle.json_tree.specs.Text.{text_of};
 ghost use Rattle.json_tree.specs.View.{view, seen};
-ghost use Rattle.variant_write.specs.Conditions.{HasNames, max_text_len, object_names, elements_names, fields_names};
-ghost use Rattle.variant_write.specs.Dictionaries.{dictionary};
+ghost use Rattle.variant_write.specs.Conditions.{HasNames, max_text_len};
+ghost use Rattle.variant_write.specs.Dictionaries.{object_names, elements_names, fields_names, dictionary};
 
 use json_tree::Tree;
 use std::alloc::Global;
@@ -17,7 +17,7 @@ const ROOM: usize = 16;
 
 /// The dictionary of a value: the names of all its objects, each once, in the order of their bytes.
 ///
-/// The canonical text of the value has at most 16,777,216 bytes.
+/// The canonical text of the value has at most 16 MiB.
 pub fn dictionary_of(alloc: Global, tree: &Tree) -> Result<Dictionary, NoMemory>
     requires small { length (text_of (view tree.now)) ≤ max_text_len }
     ensures names { IfOk result (λ d. d ≡ dictionary (view tree.now)) }
@@ -36,7 +36,7 @@ fn all_names(alloc: Global, tree: &Tree) -> Result<Vec<Text>, NoMemory>
     Ok(names)
 }
 
-// Puts the names of all objects in a value at the end.
+// Appends the names of all objects in a value.
 #[cycle(collect)]
 fn collect(alloc: Global, names: &mut Vec<Text>, tree: &Tree) -> Result<(), NoMemory>
     ensures { OnOk result (names.new.items ≡ names.old.items ++ object_names (view tree.now)) }

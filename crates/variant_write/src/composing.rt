@@ -1,4 +1,4 @@
-//! Objects and arrays whose widths only the run knows.
+//! Objects and arrays whose widths are known only at run time.
 
 ghost use Rattle.std.specs.Prelude.{◌≡◌, ◌<◌, ◌≤◌, ◌^◌, ◌++◌, [], max, true, false, length, All, OnOk};
 ghost use Rattle.vs_bytes.specs.Outcome.{Grows};
@@ -11,7 +11,7 @@ use crate::composer::Composer;
 use crate::widths::Widths;
 use vs_bytes::{NoMemory, width_of};
 
-// The instance of `Composer` for widths that only the run knows: that of offsets, and that of ids.
+// The instance of `Composer` for widths that are known only at run time: that of offsets, and that of ids.
 macro_rules! composer {
     ([$offset:expr] $($call:tt)*) => {
         match $offset {

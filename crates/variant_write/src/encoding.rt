@@ -31,7 +31,7 @@ pub(crate) const ENDS_ROOM: usize = 64;
 /// `widths.offset` bytes, the ids at least `widths.id`, and each as many as its greatest number needs. Items lie in
 /// order, without gaps.
 ///
-/// The canonical text of the value has at most 16,777,216 bytes. After an `Err` the bytes are as before.
+/// The canonical text of the value has at most 16 MiB. After an `Err` the bytes are as before.
 pub fn encode(
     into: &mut Vec<u8>,
     dict: &Dictionary,
@@ -77,7 +77,7 @@ pub(crate) fn since(ends: &[u32], first: usize) -> &[u32]
     ends.split_at(first).1
 }
 
-/// Appends the bytes of a value. `ends` is as before then, and so is `spare`.
+/// Appends the bytes of a value. After an `Ok` `spare` and `ends` are as before.
 ///
 /// The items of an array or object are written to `spare`, and where they end to `ends`, after what is there of those
 /// around it. The two buffers change places at each level. After an `Err` they have grown.

@@ -11,8 +11,8 @@ ghost use Rattle.variant_meta.specs.Dictionaries.{IsDictionary};
 ghost use Rattle.variant_meta.specs.Names.{names_rise};
 ghost use Rattle.variant_write.specs.Chosen.{chosen};
 ghost use Rattle.variant_write.specs.Coded.{coded};
-ghost use Rattle.variant_write.specs.Conditions.{IsWidths, HasNames, max_text_len, object_names};
-ghost use Rattle.variant_write.specs.Dictionaries.{dictionary};
+ghost use Rattle.variant_write.specs.Conditions.{IsWidths, HasNames, max_text_len};
+ghost use Rattle.variant_write.specs.Dictionaries.{object_names, dictionary};
 ghost use Rattle.variant_write.specs.declared.widths.Widths.{Widths};
 
 /// The bytes of a value are at most six times as many as those of its canonical text, whatever the dictionary and

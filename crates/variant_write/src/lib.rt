@@ -5,7 +5,7 @@
 //! | `widths` | `Widths`: the least widths of numbers |
 //! | `primitives` | null, booleans, numbers and texts, written |
 //! | `composer` | `Composer`: objects and arrays of values that are there already, written |
-//! | `composing` | the same for widths that only the run knows |
+//! | `composing` | the same for widths that are known only at run time |
 //! | `collecting` | `dictionary_of`: the names of all objects in a value |
 //! | `field_ids` | the ids of an object's fields |
 //! | `encoding` | `encode`: the bytes of a value |

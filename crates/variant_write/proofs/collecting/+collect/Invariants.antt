@@ -1,7 +1,7 @@
 use Rattle.std.proofs.Common.{◌≡◌, ◌++◌, map, drop}
 use Rattle.json_tree.specs.Json.{parts_of, fields_of}
 use Rattle.json_tree.specs.View.{view, seen}
-use Rattle.variant_write.specs.Conditions.{elements_names, fields_names}
+use Rattle.variant_write.specs.Dictionaries.{elements_names, fields_names}
 use Rattle.variant_write.proofs.collecting.+collect.Given as goal
 
 -- what was collected, and what is left, is all
