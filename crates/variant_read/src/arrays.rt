@@ -65,7 +65,7 @@ impl<'a, const OW: usize> ArrayRef<'a, OW> {
         ensures inside { LiesIn result (array_bytes self.now.view) }
         ensures metadata { HasMetadata result (array_metadata self.now.view) }
     {
-        let of = self.view.of;
+        let of = &self.view.of;
         of.item_from(of.layout.offset_of_width::<OW>(k))
     }
 }

@@ -7,13 +7,14 @@
 //!
 //! - Floats, dates, times, binary and uuid aren't read.
 //! - Arrays and objects nest 64 deep at most.
-//! - The items of an object or array together have no more bytes than the last offset says, so that no byte is
-//!   judged again and again.
+//! - The items of an object or array together have no more bytes than the last offset says. They may overlap, but the
+//!   ones that are judged are no longer together than the bytes of all items, so that each of the 64 levels takes
+//!   time linear in the bytes, but for comparing names that aren't sorted.
 //!
 //! It is laxer than the standard in this:
 //!
 //! - Header bits that the layout doesn't name are passed over, and so is is_large where the count would fit a byte.
-//! - The items of an object or array lie in any order, and with gaps.
+//! - The items of an object or array may lie with gaps or overlap, and those of an array in any order.
 //! - Bytes after the value are passed over.
 //!
 //! | Module | What it holds |
@@ -21,7 +22,7 @@
 //! | `layout`, `widths` | where the parts of an object or array lie; ids and offsets of a known width |
 //! | `primitives` | judging the values that hold no others |
 //! | `ids`, `judging` | judging the ids of fields, and values with all that they hold |
-//! | `scalars`, `opening` | values opened where they were judged: those that hold no others, and one level of any |
+//! | `scalars`, `opening` | judged bytes as a value: primitives and short strings; one level of any value |
 //! | `views`, `viewing` | `ValueRef` and the views in it; `view` |
 //! | `containers`, `arrays`, `objects`, `searching` | items by place, and fields by name |
 //! | `owned` | `to_tree` |

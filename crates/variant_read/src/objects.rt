@@ -110,7 +110,7 @@ impl<'a, const OW: usize, const IW: usize> ObjectRef<'a, OW, IW> {
         ensures value { option_map (λ member. member.0) (slice_get (members_of self.now.view) k) ≡ Some result.now }
         ensures inside { IsPart result.now (object_metadata self.now.view) }
     {
-        let of = self.view.of;
+        let of = &self.view.of;
         of.meta.name(of.layout.id_of_width::<IW>(k))
     }
 
@@ -122,7 +122,7 @@ impl<'a, const OW: usize, const IW: usize> ObjectRef<'a, OW, IW> {
         ensures inside { LiesIn result (object_bytes self.now.view) }
         ensures metadata { HasMetadata result (object_metadata self.now.view) }
     {
-        let of = self.view.of;
+        let of = &self.view.of;
         of.item_from(of.layout.offset_of_width::<OW>(k))
     }
 }

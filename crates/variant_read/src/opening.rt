@@ -42,7 +42,7 @@ fn opened_scalar(scalar: Scalar<'_>) -> ValueRef<'_>
     }
 }
 
-/// The value of bytes that mean one. It tests nothing again.
+/// The value at the front of bytes that were judged. Nothing is tested again.
 #[tactic(auto, using(crate::proofs::Levels::some_byte, crate::proofs::Levels::level_primitive, crate::proofs::Levels::level_short, crate::proofs::Levels::level_room, crate::proofs::Levels::level_container))]
 pub(crate) fn opened<'a>(meta: MetaRef<'a>, bytes: &'a [u8], room: u8) -> ValueRef<'a>
     requires { is_ok (value_within (names_of meta) room bytes.now) ≡ true }

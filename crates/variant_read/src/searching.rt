@@ -16,7 +16,7 @@ impl<'a, const OW: usize, const IW: usize> ObjectRef<'a, OW, IW> {
         requires { k < length (members_of self.now.view) }
         ensures { result.now ≡ name_at (member_names (members_of self.now.view)) k }
     {
-        let of = self.view.of;
+        let of = &self.view.of;
         of.meta.name(of.layout.id_of_width::<IW>(k)).as_bytes()
     }
 

@@ -15,11 +15,17 @@ use variant_meta::MetaRef;
 /// "Value encoding").
 #[derive(Clone, Copy)]
 pub enum ValueRef<'a> {
+    /// Null.
     Null,
+    /// True or false.
     Bool(bool),
+    /// An integer or a decimal.
     Num(Number),
+    /// A text, in place.
     Text(&'a str),
+    /// An object, read field by field.
     Object(ObjectView<'a>),
+    /// An array, read element by element.
     Array(ArrayView<'a>),
 }
 
@@ -59,6 +65,7 @@ pub struct ObjectView<'a> {
 /// An array whose offsets have `OW` bytes, from 1 to 4.
 #[derive(Clone, Copy)]
 pub struct ArrayRef<'a, const OW: usize> {
+    /// The array, whatever the width of its offsets.
     pub view: ArrayView<'a>,
     ghost offsets: { offset_size view.of.layout.bytes.now ≡ OW },
 }
@@ -66,6 +73,7 @@ pub struct ArrayRef<'a, const OW: usize> {
 /// An object whose offsets have `OW` bytes and whose ids have `IW`, each from 1 to 4.
 #[derive(Clone, Copy)]
 pub struct ObjectRef<'a, const OW: usize, const IW: usize> {
+    /// The object, whatever the widths of its offsets and ids.
     pub view: ObjectView<'a>,
     ghost offsets: { offset_size view.of.layout.bytes.now ≡ OW },
     ghost ids: { id_size view.of.layout.bytes.now ≡ IW },
