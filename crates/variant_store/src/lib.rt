@@ -1,4 +1,5 @@
-//! The top call.
+//! The top call: the words of a command to a status, over any source and sinks, and what `scan` and `variant`
+//! print of a document.
 //!
 //! | Module | What it holds |
 //! |---|---|

@@ -1,0 +1,17 @@
+//! Column chunks: the entries of their pages (README.md of parquet-format, "Column chunks").
+//!
+//! What a chunk holds, and the order of its rules, is defined in `specs/Turns.antt`.
+//!
+//! | Module | What it holds |
+//! |---|---|
+//! | `page_walk` | the pages in the bytes of a chunk |
+//! | `chunk_reader` | `ChunkReader`: the entries of a chunk, page by page |
+//! | `laws` | what is written reads back |
+#![tactic(auto)]
+
+mod chunk_reader;
+mod laws;
+mod page_walk;
+
+pub use chunk_reader::ChunkReader;
+pub use laws::written_pages_read_back;

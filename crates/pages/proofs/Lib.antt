@@ -1,0 +1,10 @@
+pub mod BodyBack
+pub mod Borne
+pub mod EntriesBack
+pub mod Fitting
+pub mod LevelsBack
+pub mod Light
+pub mod Maximum
+pub mod PageBack
+pub mod Samples
+pub mod Truths

@@ -1,0 +1,6 @@
+pub mod Bodies
+pub mod Entries
+pub mod Levels
+pub mod Pages
+pub mod Shown
+pub mod Written
