@@ -3,11 +3,11 @@ use Rattle.std.specs.Prelude.{ℕ, ◌+◌, ◌*◌, ◌^◌, ◌==◌, nat_lt, 
 use Rattle.exact_num.specs.Decimal.{Decimal}
 use Rattle.exact_num.specs.Unscaled.{half, reach, little_integer_bytes}
 use Rattle.vs_bytes.specs.Numbers.{number_bytes}
-use Rattle.variant_meta.specs.TypeIds.{primitive_type, short_string_type, int8_id, int16_id, int32_id, int64_id, decimal4_id, decimal8_id, decimal16_id, string_id}
+use Rattle.variant_meta.specs.TypeIds.{short_string_type, int8_id, int16_id, int32_id, int64_id, decimal4_id, decimal8_id, decimal16_id, string_id}
 
--- byte 0 of a type id, and of a short string of so many bytes
+-- byte 0 of a type id, whose basic type is `primitive_type`, and of a short string of so many bytes
 abbrev pub primitive_head : ℕ → ℕ
-primitive_head type_id = primitive_type + 4 * type_id
+primitive_head type_id = 4 * type_id
 
 abbrev pub short_string_head : ℕ → ℕ
 short_string_head len = short_string_type + 4 * len

@@ -12,7 +12,7 @@ ghost use Rattle.variant_write.specs.Primitives.{primitive_head, integer_bytes, 
 use exact_num::{Number, Unscaled};
 use variant_meta::{
     DECIMAL4_ID, DECIMAL8_ID, DECIMAL16_ID, FALSE_ID, INT8_ID, INT16_ID, INT32_ID, INT64_ID,
-    NULL_ID, PRIMITIVE_TYPE, SHORT_STRING_TYPE, STRING_ID, TRUE_ID,
+    NULL_ID, SHORT_STRING_TYPE, STRING_ID, TRUE_ID,
 };
 use vs_bytes::{Le, NoMemory};
 
@@ -24,7 +24,7 @@ fn append_head(into: &mut Vec<u8>, type_id: u8) -> Result<(), NoMemory>
     ensures ok { OnOk result (into.new.items ≡ into.old.items ++ primitive_head type_id ∷ []) }
     ensures grows { Grows into.old.items into.new.items }
 {
-    into.push(PRIMITIVE_TYPE + 4 * type_id)?;
+    into.push(4 * type_id)?;
     Ok(())
 }
 
