@@ -1,4 +1,5 @@
-//! The calls on Variant bytes once, on their happy path: no contract can say that memory was there.
+//! The calls on Variant bytes: each once on its happy path, since no contract can say that memory was there, and
+//! rows of cells with what they mean.
 //!
 //! | Module | What it calls |
 //! |---|---|
@@ -6,6 +7,7 @@
 //! | `metadata` | dictionaries, and metadata read in place |
 //! | `cells` | what cells of any bytes mean, and the rules that they violate |
 //! | `values` | values, written |
+//! | `views` | objects and arrays, viewed |
 #![tactic(auto)]
 
 #[cfg(test)]
@@ -16,3 +18,5 @@ mod metadata;
 mod numbers;
 #[cfg(test)]
 mod values;
+#[cfg(test)]
+mod views;

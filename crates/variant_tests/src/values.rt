@@ -4,34 +4,65 @@ ghost use Rattle.std.specs.Prelude.{◌≤◌};
 ghost use Rattle.variant_write.specs.Conditions.{max_width};
 
 use json_tree::{Items, Members, Number, Tree, text_len};
-use std::alloc::Global;
+use std::alloc::{AllocError, Global};
 use std::process::Abort;
 use std::test::Fail;
 use variant_write::{Composer, Widths, dictionary_of, encode, encode_members};
 use vs_bytes::{NoMemory, Text};
 
-// {"a":1,"b":[null,"hi"]}
-fn members(alloc: Global) -> Result<Members, NoMemory> {
+// The longest canonical text of a value that is written: 16 MiB.
+const MAX_TEXT_LEN: u64 = 16_777_216;
+
+// Why nothing was written.
+#[derive(Debug, Drop)]
+enum Wrong {
+    // A name stands twice.
+    Repeated,
+    // The canonical text is longer than writers take.
+    TooLong,
+    // Another value than the one that was made.
+    Other,
+    NoMemory,
+}
+
+impl From<NoMemory> for Wrong {
+    fn from(_error: NoMemory) -> Wrong {
+        Wrong::NoMemory
+    }
+}
+
+impl From<AllocError> for Wrong {
+    fn from(_error: AllocError) -> Wrong {
+        Wrong::NoMemory
+    }
+}
+
+// The members of {"a":1,"b":[null,"hi"]}.
+fn pairs(alloc: Global) -> Result<Vec<(Text, Tree)>, NoMemory> {
     let mut items = Items::new(alloc);
     items.push(Tree::Null)?;
     items.push(Tree::Text(Text::from_str(alloc, "hi")?))?;
     let mut pairs = Vec::new(alloc);
     pairs.push((Text::from_str(alloc, "a")?, Tree::Num(Number::of(1, 0))))?;
     pairs.push((Text::from_str(alloc, "b")?, Tree::Array(items)))?;
-    match Members::from_pairs(pairs) {
+    Ok(pairs)
+}
+
+fn members(alloc: Global) -> Result<Members, Wrong> {
+    match Members::from_pairs(pairs(alloc)?) {
         Ok(members) => Ok(members),
-        Err(_) => Err(NoMemory),
+        Err(_) => Err(Wrong::Repeated),
     }
 }
 
 // The bytes of the object, by its own dictionary.
-fn encoded(alloc: Global, offset: u8, id: u8) -> Result<Vec<u8>, NoMemory>
+fn encoded(alloc: Global, offset: u8, id: u8) -> Result<Vec<u8>, Wrong>
     requires offset { (1 ≤ offset) × (offset ≤ max_width) }
     requires id { (1 ≤ id) × (id ≤ max_width) }
 {
     let tree = Tree::Object(members(alloc)?);
-    if text_len(&tree) > 16_777_216 {
-        return Err(NoMemory);
+    if text_len(&tree) > MAX_TEXT_LEN {
+        return Err(Wrong::TooLong);
     }
     let dictionary = dictionary_of(alloc, &tree)?;
     let mut bytes = Vec::new(alloc);
@@ -40,10 +71,10 @@ fn encoded(alloc: Global, offset: u8, id: u8) -> Result<Vec<u8>, NoMemory>
 }
 
 // The bytes of its member `b` alone.
-fn chosen(alloc: Global) -> Result<Vec<u8>, NoMemory> {
+fn chosen(alloc: Global) -> Result<Vec<u8>, Wrong> {
     let tree = Tree::Object(members(alloc)?);
-    if text_len(&tree) > 16_777_216 {
-        return Err(NoMemory);
+    if text_len(&tree) > MAX_TEXT_LEN {
+        return Err(Wrong::TooLong);
     }
     let dictionary = dictionary_of(alloc, &tree)?;
     let mut bytes = Vec::new(alloc);
@@ -56,9 +87,10 @@ fn chosen(alloc: Global) -> Result<Vec<u8>, NoMemory> {
                 &[false, true],
                 Widths { offset: 1, id: 1 },
             )?;
+            return Ok(bytes);
         }
     }
-    Ok(bytes)
+    Err(Wrong::Other)
 }
 
 // An object (2) of 2 fields, the ids 0 and 1, the offsets 0, 2 and 11, then int8 (type id 3) 1, and an array (3) of 2
