@@ -1,0 +1,8 @@
+-- ranges of leaves
+pub mod LeafRanges
+-- nodes of well-formed columns
+pub mod NodeFacts
+-- which leaves of a range are read
+pub mod ReadLeaves
+-- what is of a node has its shape
+pub mod ShapeFacts

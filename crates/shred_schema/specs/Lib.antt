@@ -1,0 +1,16 @@
+-- cells of a kind
+pub mod Cells
+-- nodes as plain data
+pub mod Groups
+-- which nodes a column may have
+pub mod Lawful
+-- a column without the leaves that are not read
+pub mod Projection
+-- ranges of leaves, and which of them are read
+pub mod Ranges
+-- records as plain data
+pub mod Recs
+-- which records stand in a node
+pub mod Shapes
+-- what nodes and records are seen as
+pub mod Views

@@ -1,0 +1,20 @@
+//! The columns that shredded Variants have (VariantShredding.md), and the records that stand in them.
+//!
+//! A column is a tree of nodes. Each node may have a `value`, which holds what doesn't fit the node as Variant bytes,
+//! and a typed part, which holds what does: a cell, a record for each field, or a record for each item. Contracts see
+//! nodes and records as plain data: `Group` and `Rec` of `specs/`.
+//!
+//! | Module | What it holds |
+//! |---|---|
+//! | `nodes` | `Node`, `Typed`, `FieldList`, `Slot`: what a column can hold; `Column` |
+//! | `records` | `Record`, `Part`, `RowRecord`: what stands in it for one document |
+//! | `masks` | `Mask`: which leaves are read |
+#![tactic(auto)]
+
+mod masks;
+mod nodes;
+mod records;
+
+pub use masks::Mask;
+pub use nodes::{Column, FieldList, Node, Slot, Typed};
+pub use records::{Part, Record, RecordList, RowList, RowRecord};
