@@ -2,6 +2,8 @@
 pub mod LeafRanges
 -- nodes of well-formed columns
 pub mod NodeFacts
+-- projected columns
+pub mod Projected
 -- which leaves of a range are read
 pub mod ReadLeaves
 -- what is of a node has its shape
