@@ -6,5 +6,7 @@ pub mod NodeFacts
 pub mod Projected
 -- which leaves of a range are read
 pub mod ReadLeaves
+-- what nodes and records show
+pub mod Viewed
 -- what is of a node has its shape
 pub mod ShapeFacts
