@@ -68,9 +68,15 @@ abbrev pub HasValue : Slot → Kind → Type 0
 HasValue Absent t = ⊥
 HasValue s t = Unit {0}
 
+-- a precision and a scale that can be written
+pub record IsDecimalKind (p s : ℕ) : Type 0 where
+  pub some : 1 ≤ p
+  pub most : p ≤ max_digits
+  pub places : s ≤ p
+
 abbrev pub IsWritten : PrimKind → Type 0
 IsWritten prim.Raw = ⊥
-IsWritten (prim.Decimal p s) = (1 ≤ p) × (p ≤ max_digits) × (s ≤ p)
+IsWritten (prim.Decimal p s) = IsDecimalKind p s
 IsWritten (prim.Refused rule) = ⊥
 IsWritten q = Unit {0}
 

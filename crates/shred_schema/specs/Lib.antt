@@ -2,6 +2,8 @@
 pub mod Cells
 -- nodes as plain data
 pub mod Groups
+-- kinds of cells by physical type and annotation
+pub mod Kinds
 -- which nodes a column may have
 pub mod Lawful
 -- a column without the leaves that are not read

@@ -9,12 +9,15 @@
 //! | `nodes` | `Node`, `Typed`, `FieldList`, `Slot`: what a column can hold; `Column` |
 //! | `records` | `Record`, `Part`, `RowRecord`: what stands in it for one document |
 //! | `masks` | `Mask`: which leaves are read |
+//! | `kinds` | `prim_of`, `form_of`: kinds of cells by physical type and annotation |
 #![tactic(auto)]
 
+mod kinds;
 mod masks;
 mod nodes;
 mod records;
 
+pub use kinds::{Note, form_of, prim_of};
 pub use masks::Mask;
 pub use nodes::{Column, FieldList, Node, Slot, Typed};
 pub use records::{Part, Record, RecordList, RowList, RowRecord};
