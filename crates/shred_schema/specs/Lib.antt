@@ -6,6 +6,8 @@ pub mod Groups
 pub mod Kinds
 -- which nodes a column may have
 pub mod Lawful
+-- leaf columns
+pub mod Leaves
 -- a column without the leaves that are not read
 pub mod Projection
 -- ranges of leaves, and which of them are read

@@ -10,14 +10,17 @@
 //! | `records` | `Record`, `Part`, `RowRecord`: what stands in it for one document |
 //! | `masks` | `Mask`: which leaves are read |
 //! | `kinds` | `prim_of`, `form_of`: kinds of cells by physical type and annotation |
+//! | `leaf_list` | `leaves`: the leaf columns with their levels |
 #![tactic(auto)]
 
 mod kinds;
+mod leaf_list;
 mod masks;
 mod nodes;
 mod records;
 
 pub use kinds::{Note, form_of, prim_of};
+pub use leaf_list::{LeafList, leaves};
 pub use masks::Mask;
 pub use nodes::{Column, FieldList, Node, Slot, Typed};
 pub use records::{Part, Record, RecordList, RowList, RowRecord};
