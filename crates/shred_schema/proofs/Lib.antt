@@ -1,3 +1,7 @@
+-- cells of a kind
+pub mod CellFacts
+-- values that fit, and their cells
+pub mod FitFacts
 -- ranges of leaves
 pub mod LeafRanges
 -- nodes of well-formed columns

@@ -1,5 +1,7 @@
 -- cells of a kind
 pub mod Cells
+-- values that fit a kind of cells, and the values that cells stand for
+pub mod Fits
 -- nodes as plain data
 pub mod Groups
 -- kinds of cells by physical type and annotation

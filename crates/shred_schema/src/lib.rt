@@ -11,14 +11,17 @@
 //! | `masks` | `Mask`: which leaves are read |
 //! | `kinds` | `prim_of`, `form_of`: kinds of cells by physical type and annotation |
 //! | `leaf_list` | `leaves`: the leaf columns with their levels |
+//! | `fitting` | `fit`: the cell of a value that fits; `tree_of`: the value that a cell stands for |
 #![tactic(auto)]
 
+mod fitting;
 mod kinds;
 mod leaf_list;
 mod masks;
 mod nodes;
 mod records;
 
+pub use fitting::{fit, tree_of};
 pub use kinds::{Note, form_of, prim_of};
 pub use leaf_list::{LeafList, leaves};
 pub use masks::Mask;
