@@ -1,5 +1,5 @@
 -- Cells of a kind: the test and the relation, and what holds of a cell that is read.
-use Rattle.std.proofs.Common.{◌≡◌, ◌∙◌, sym, ap, subst, refl, ℕ, suc, ◌+◌, ◌≤◌, ◌<◌, ◌^◌, nat_lt, Bool, true, false, true≢false, ℤ, pos, negsuc, unsigned_abs, List, IsUtf8, arith}
+use Rattle.std.proofs.Common.{◌≡◌, sym, subst, refl, ℕ, ◌+◌, ◌≤◌, ◌<◌, ◌^◌, nat_lt, true, true≢false, ℤ, pos, negsuc, unsigned_abs, List, IsUtf8, arith}
 use Rattle.std.proofs.lemmas.Bool.Decides.{nat_tests}
 use Rattle.std.proofs.lemmas.Str.{is_utf8-from_IsUtf8, IsUtf8-from_is_utf8}
 use Rattle.exact_num.specs.Decimal.{max_digits}

@@ -1,6 +1,5 @@
 -- What fits a kind of cells comes back from its cell.
-use Rattle.std.proofs.Common.{◌≡◌, ◌∙◌, sym, ap, ap₂, subst, refl, ℕ, suc, ◌+◌, ◌-◌, ◌*◌, ◌^◌, ◌%◌, ◌==◌, ◌≤◌, ◌<◌, nat_le, nat_lt, cond, Bool, true, false, ◌&&◌, ◌⊎◌, inl, inr, ⊎_elim, ℤ, pos, negsuc, ◌*ℤ◌, int_lt, int_le, unsigned_abs, Option, Some, None, MatchOption, option_map, option_and_then, List, arith}
-use Rattle.std.specs.Str.{is_utf8}
+use Rattle.std.proofs.Common.{◌≡◌, ◌∙◌, sym, ap, ap₂, subst, refl, ℕ, ◌^◌, ◌%◌, ◌==◌, ◌≤◌, ◌<◌, nat_le, nat_lt, cond, Bool, true, false, ◌&&◌, ◌⊎◌, inl, inr, ⊎_elim, ℤ, pos, negsuc, ◌*ℤ◌, int_lt, int_le, unsigned_abs, Option, Some, None, MatchOption, option_map, arith}
 use Rattle.std.proofs.lemmas.Bool.{and_parts}
 use Rattle.std.proofs.lemmas.Bool.Decides.{nat_tests}
 use Rattle.exact_num.specs.Decimal.{Decimal, IsNumber, IsSame, signed, shortened, least, max_digits}
@@ -19,8 +18,8 @@ use Rattle.vs_bytes.specs.declared.leaf_columns.Cell.TheVariants as cell
 use Rattle.vs_bytes.specs.declared.leaf_columns.PrimKind.{PrimKind}
 use Rattle.vs_bytes.specs.declared.leaf_columns.PrimKind.TheVariants as prim
 use Rattle.shred_schema.specs.Cells.{is_of_prim}
-use Rattle.shred_schema.specs.Fits.{truth_in, number_in, text_in, within, signed_within, raised, over_in, number_cell, fit, places_of, tree_of}
-use Rattle.shred_schema.specs.Lawful.{IsDecimalKind, IsWritten}
+use Rattle.shred_schema.specs.Fits.{within, signed_within, raised, over_in, number_cell, fit, places_of, tree_of}
+use Rattle.shred_schema.specs.Lawful.{IsWritten}
 
 -- Decimals.
 

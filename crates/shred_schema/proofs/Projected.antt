@@ -1,9 +1,9 @@
 -- A projected column: its leaves are those that are read, and it nests no deeper than the whole one.
-use Rattle.std.proofs.Common.{◌≡◌, ◌∙◌, sym, ap, ap₂, subst, refl, ℕ, zero, suc, ◌+◌, ◌≤◌, ◌<◌, max, cond, Bool, true, false, true≢false, not, ◌&&◌, ◌||◌, zero-add, add-zero, arith}
+use Rattle.std.proofs.Common.{◌≡◌, ◌∙◌, sym, ap, ap₂, subst, refl, ℕ, zero, suc, ◌+◌, ◌≤◌, cond, Bool, true, false, true≢false, not, ◌&&◌, ◌||◌, zero-add, add-zero, arith}
 use Rattle.shred_schema.specs.Groups.{Group, group, Kind, free, scalar, object_of, list_of, Groups, no_groups, field, slot_width, width, kind_width, groups_width, nesting, kind_nesting, groups_nesting, height, kind_height, groups_height}
 use Rattle.shred_schema.specs.Lawful.{HasLeaves, KindHasLeaves, GroupsHaveLeaves}
 use Rattle.shred_schema.specs.Projection.{count_read, place, projected, kind_kept, groups_projected, kind_projected}
-use Rattle.shred_schema.specs.Ranges.{is_among, all_leaves, every, each_read, none_read}
+use Rattle.shred_schema.specs.Ranges.{is_among, every, each_read, none_read}
 use Rattle.shred_schema.specs.declared.nodes.Slot.{Slot}
 use Rattle.shred_schema.specs.declared.nodes.Slot.TheVariants.{Absent, Required, Optional}
 use Rattle.shred_schema.proofs.LeafRanges.{among_first, among_rest}

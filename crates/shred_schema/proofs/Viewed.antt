@@ -1,11 +1,11 @@
 -- What nodes and records show, level by level and field by field.
 use Rattle.std.proofs.Common.{◌≡◌, ◌∙◌, sym, ap, refl, ℕ, zero, suc, ◌+◌, ◌≤◌, ◌<◌, List, [], ◌∷◌, drop, get_or, length, map, option_map, Option, Some, None, rules, arith}
-use Rattle.shred_schema.specs.Groups.{Group, group, Kind, free, scalar, object_of, list_of, Groups, no_groups, field, groups_from}
-use Rattle.shred_schema.specs.Recs.{Rec, rec, RecPart, Recs, no_recs, recs, recs_from, fields, items, cell}
+use Rattle.shred_schema.specs.Groups.{Group, group, Kind, object_of, list_of, Groups, no_groups, field, groups_from}
+use Rattle.shred_schema.specs.Recs.{Rec, rec, RecPart, no_recs, recs, recs_from}
 use Rattle.shred_schema.specs.Views.{kind_step, groups_step, group_step, part_step, rec_step, group_of, kind_of, groups_of, fields_in, named, rec_of, part_of, part_or_empty}
 use Rattle.shred_schema.specs.declared.nodes.Node.{Node, fold_out-Node}
 use Rattle.shred_schema.specs.declared.nodes.FieldList.{FieldList, fold_out-FieldList}
-use Rattle.shred_schema.specs.declared.nodes.Typed.{Typed, the_lemmas}
+use Rattle.shred_schema.specs.declared.nodes.Typed.{the_lemmas}
 use Rattle.shred_schema.specs.declared.nodes.Typed.TheVariants as typed
 use Rattle.shred_schema.specs.declared.records.Record.{Record, map-Record, fold_out-Record}
 use Rattle.shred_schema.specs.declared.records.Part.{Part}

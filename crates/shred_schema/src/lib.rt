@@ -11,6 +11,7 @@
 //! | `masks` | `Mask`: which leaves are read |
 //! | `kinds` | `prim_of`, `form_of`: kinds of cells by physical type and annotation |
 //! | `leaf_list` | `leaves`: the leaf columns with their levels |
+//! | `widths` | `width`: how many leaf columns a node has |
 //! | `fitting` | `fit`: the cell of a value that fits; `tree_of`: the value that a cell stands for |
 #![tactic(auto)]
 
@@ -20,6 +21,7 @@ mod leaf_list;
 mod masks;
 mod nodes;
 mod records;
+mod widths;
 
 pub use fitting::{fit, tree_of};
 pub use kinds::{Note, form_of, prim_of};
@@ -27,3 +29,4 @@ pub use leaf_list::{LeafList, leaves};
 pub use masks::Mask;
 pub use nodes::{Column, FieldList, Node, Slot, Typed};
 pub use records::{Part, Record, RecordList, RowList, RowRecord};
+pub use widths::{typed_width, width};
