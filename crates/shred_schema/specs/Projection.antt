@@ -1,8 +1,8 @@
 -- A column without the leaves that aren't read. Its leaves are those that are, in their order and numbered without
 -- gaps; a typed part of which no leaf is read isn't there, and the fields of any other keep their places.
-use Rattle.std.specs.Prelude.{ℕ, zero, suc, ◌+◌, Bool, cond}
+use Rattle.std.specs.Prelude.{◌≡◌, ℕ, zero, suc, ◌+◌, Bool, true, false, ◌||◌, cond}
 use Rattle.shred_schema.specs.Groups.{Group, group, Kind, free, scalar, object_of, list_of, Groups, no_groups, field, slot_width, width, kind_width}
-use Rattle.shred_schema.specs.Ranges.{none_read}
+use Rattle.shred_schema.specs.Ranges.{none_read, is_any_read}
 use Rattle.shred_schema.specs.declared.nodes.Slot.TheVariants.{Absent}
 
 -- how many of `count` leaves from k on are read
@@ -31,3 +31,24 @@ abbrev mutual
 
 abbrev pub kind_projected : Kind → ℕ → (ℕ → Bool) → Kind
 kind_projected t k mask = cond (none_read mask k (kind_width t)) free (kind_kept t k mask)
+
+-- Which masks can be read under.
+
+-- whether the mask reads the value of some node
+abbrev mutual
+  pub reads_value : (ℕ → Bool) → Group → ℕ → Bool
+  reads_value mask (group s t) k = is_any_read mask k (slot_width s) || kind_reads_value mask t (k + slot_width s)
+
+  pub kind_reads_value : (ℕ → Bool) → Kind → ℕ → Bool
+  kind_reads_value mask free k = false
+  kind_reads_value mask (scalar q) k = false
+  kind_reads_value mask (object_of gs) k = fields_read_value mask gs k
+  kind_reads_value mask (list_of n) k = reads_value mask n k
+
+  pub fields_read_value : (ℕ → Bool) → Groups → ℕ → Bool
+  fields_read_value mask no_groups k = false
+  fields_read_value mask (field name n gs) k = reads_value mask n k || fields_read_value mask gs (k + width n)
+
+-- a closed mask reads the metadata, which is leaf 0, if it reads a value
+abbrev pub IsClosed : (ℕ → Bool) → Group → Type 0
+IsClosed mask n = reads_value mask n 1 ≡ true → mask 0 ≡ true
