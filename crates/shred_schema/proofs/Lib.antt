@@ -14,3 +14,5 @@ pub mod ReadLeaves
 pub mod Viewed
 -- what is of a node has its shape
 pub mod ShapeFacts
+-- definitions, computed on small values
+pub mod Samples

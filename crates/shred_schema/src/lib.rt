@@ -13,10 +13,12 @@
 //! | `leaf_list` | `leaves`: the leaf columns with their levels |
 //! | `widths` | `width`: how many leaf columns a node has |
 //! | `fitting` | `fit`: the cell of a value that fits; `tree_of`: the value that a cell stands for |
+//! | `laws` | what fits comes back, written kinds read back, nodes and projections have leaves |
 #![tactic(auto)]
 
 mod fitting;
 mod kinds;
+mod laws;
 mod leaf_list;
 mod masks;
 mod nodes;
@@ -25,6 +27,10 @@ mod widths;
 
 pub use fitting::{fit, tree_of};
 pub use kinds::{Note, form_of, prim_of};
+pub use laws::{
+    cells_are_told, kinds_read_back, nodes_have_leaves, projections_are_narrow,
+    records_have_shapes, what_fits_comes_back,
+};
 pub use leaf_list::{LeafList, leaves};
 pub use masks::Mask;
 pub use nodes::{Column, FieldList, Node, Slot, Typed};
