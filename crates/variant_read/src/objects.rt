@@ -1,9 +1,11 @@
 //! The fields of objects.
 
-ghost use Rattle.std.specs.Prelude.{◌≡◌, ◌<◌, ◌↔◌, Some, IsSome, IfSome, slice_get, length};
+ghost use Rattle.std.specs.Prelude.{◌≡◌, ◌<◌, ◌↔◌, true, Some, IsSome, IfSome, slice_get, length};
 ghost use Rattle.std.specs.Option.{option_map};
 ghost use Rattle.vs_bytes.specs.Numbers.{IsPart};
 ghost use Rattle.vs_bytes.specs.Outcome.{Finds};
+ghost use Rattle.variant_meta.specs.Names.{names_rise};
+ghost use Rattle.variant_read.specs.Items.{member_names};
 ghost use Rattle.variant_read.specs.Trees.{member_named};
 ghost use Rattle.variant_read.specs.View.{members_of, json_of, object_bytes, object_metadata, object_offset_size, object_id_size, LiesIn, HasMetadata};
 
@@ -41,6 +43,12 @@ impl<'a> ObjectView<'a> {
     {
         self.of.layout.len
     }
+
+    /// The names of the fields strictly rise by their bytes. The call does nothing.
+    #[tactic(auto, using(crate::proofs::Members::held_names_rise), unfolding(crate::specs::View::members_of))]
+    pub fn names_rise(&self)
+        ensures { names_rise (member_names (members_of self.now)) ≡ true }
+    {}
 
     /// The name of the field at `k`, counted from 0 in the order of the names.
     pub fn name(&self, k: usize) -> &'a str
