@@ -1,0 +1,21 @@
+//! Rows of shredded Variants, made whole (VariantShredding.md, "Reconstructing a Shredded Variant").
+//!
+//! What a row record means, and the order of the rules, is defined in `specs/`. A row is read under a mask, which says
+//! of each leaf column whether it is read. What isn't read counts as missing.
+//!
+//! | Module | What it holds |
+//! |---|---|
+//! | `leaves` | which leaves of a node are read |
+//! | `merging` | what the value and the typed part of one node mean together |
+//! | `records` | records, node by node |
+//! | `needing` | whether the names of a row's metadata are needed |
+//! | `rows` | `unshred`: a row |
+#![tactic(auto)]
+
+mod leaves;
+mod merging;
+mod needing;
+mod records;
+mod rows;
+
+pub use rows::unshred;

@@ -1,0 +1,252 @@
+//! Records, node by node.
+
+ghost use Rattle.std.specs.Prelude.{◌≡◌, ◌+◌, ◌≤◌, ◌<◌, ◌^◌, ◌++◌, length, map};
+ghost use Rattle.std.specs.Option.{option_map};
+ghost use Rattle.json_tree.specs.Json.{items_of};
+ghost use Rattle.json_tree.specs.View.{view, seen as pair_seen};
+ghost use Rattle.vs_bytes.specs.Outcome.{Makes};
+ghost use Rattle.variant_meta.specs.MetaRefs.{names_of};
+ghost use Rattle.variant_read.specs.Meaning.{max_nesting};
+ghost use Rattle.variant_read.specs.View.{json_of};
+ghost use Rattle.shred_schema.specs.Groups.{width, kind_width, groups_width, nesting, kind_nesting, groups_nesting, groups_from};
+ghost use Rattle.shred_schema.specs.Lawful.{AreNodes, IsObject, EachIn, EachField, HasEither, MayHold};
+ghost use Rattle.shred_schema.specs.Ranges.{reads};
+ghost use Rattle.shred_schema.specs.Recs.{recs_from, EachRec};
+ghost use Rattle.shred_schema.specs.Shapes.{HasShape, PartHasShape, FieldsHaveShape};
+ghost use Rattle.shred_schema.specs.Views.{group_of, kind_of, rec_of, part_of, part_or_empty, named};
+ghost use Rattle.unshredder.specs.Merging.{with_fields, with_items};
+ghost use Rattle.unshredder.specs.Seen.{seen, typed_seen, fields_seen, items_seen, is_tested, ahead};
+
+use crate::leaves::{is_any_read, is_tested};
+use crate::merging::{left_over, put_member, value_seen, whole, with_cell, without_fields};
+use json_tree::{Items, Members, Tree};
+use shred_schema::{Node, Part, Record, Typed, kind_width, slot_width, width};
+use std::alloc::Global;
+use variant_meta::MetaRef;
+use variant_read::ValueRef;
+use vs_bytes::{Refusal, Rule, Text};
+
+/// What a record means, or the first rule that it violates. The leaves of its node begin at `leaf`, and the node
+/// stands inside `above` objects and lists. `None` where nothing is there.
+#[cycle(seen)]
+pub(crate) fn seen(
+    alloc: Global,
+    mask: &[bool],
+    meta: &MetaRef,
+    node: &Node,
+    leaf: usize,
+    above: u8,
+    rec: &Record,
+) -> Result<Option<Tree>, Refusal>
+    requires nodes { AreNodes (group_of node.now) }
+    requires shape { HasShape (group_of node.now) (rec_of rec.now) }
+    requires leaves { leaf + width (group_of node.now) < 2 ^ 32 }
+    requires deep { above + nesting (group_of node.now) ≤ max_nesting }
+    ensures { Makes (option_map view) result (seen (reads mask.now) (names_of meta.now) (group_of node.now) leaf above (rec_of rec.now)) }
+{
+    let first = slot_width(node.value);
+    let value = value_seen(*meta, above, is_any_read(mask, leaf, first), &rec.value)?;
+    if is_any_read(mask, leaf + first, kind_width(&node.typed)) {
+        typed_seen(
+            alloc,
+            mask,
+            meta,
+            &node.typed,
+            leaf + first,
+            above,
+            value,
+            &rec.typed,
+        )
+    } else {
+        Ok(whole(alloc, value)?)
+    }
+}
+
+// The typed part of a node, some leaf of which is read.
+#[cycle(seen)]
+fn typed_seen(
+    alloc: Global,
+    mask: &[bool],
+    meta: &MetaRef,
+    typed: &Typed,
+    leaf: usize,
+    above: u8,
+    value: Option<ValueRef>,
+    part: &Option<Part>,
+) -> Result<Option<Tree>, Refusal>
+    requires nodes { EachIn HasEither MayHold (kind_of typed.now) }
+    requires shape { PartHasShape (kind_of typed.now) (part_or_empty (option_map part_of part.now)) }
+    requires leaves { leaf + kind_width (kind_of typed.now) < 2 ^ 32 }
+    requires deep { above + kind_nesting (kind_of typed.now) ≤ max_nesting }
+    ensures { Makes (option_map view) result (typed_seen (reads mask.now) (names_of meta.now) (kind_of typed.now) leaf above (option_map json_of value.entry) (part_or_empty (option_map part_of part.now))) }
+{
+    match typed {
+        Typed::Free => Ok(whole(alloc, value)?),
+        Typed::Prim(prim) => match part {
+            Some(part) => match part {
+                Part::Cell(cell) => with_cell(alloc, value, *prim, cell),
+                _ => unreachable!(),
+            },
+            None => Ok(whole(alloc, value)?),
+        },
+        Typed::Fields(fields) => match part {
+            Some(part) => match part {
+                Part::Fields(records) => with_fields(
+                    alloc,
+                    mask,
+                    meta,
+                    fields.as_slice(),
+                    leaf,
+                    above,
+                    value,
+                    records.as_slice(),
+                ),
+                _ => unreachable!(),
+            },
+            None => without_fields(alloc, value),
+        },
+        Typed::Items(node) => match part {
+            Some(part) => match part {
+                Part::Items(records) => with_items(
+                    alloc,
+                    mask,
+                    meta,
+                    node.get(),
+                    leaf,
+                    above,
+                    value,
+                    records.as_slice(),
+                ),
+                _ => unreachable!(),
+            },
+            None => Ok(whole(alloc, value)?),
+        },
+    }
+}
+
+// An object, of whose fields each has a record. Its value may have further members.
+#[cycle(seen)]
+#[tactic(auto, using(crate::proofs::Apart::not_repeated))]
+fn with_fields(
+    alloc: Global,
+    mask: &[bool],
+    meta: &MetaRef,
+    fields: &[(Text, Node)],
+    leaf: usize,
+    above: u8,
+    value: Option<ValueRef>,
+    records: &[Record],
+) -> Result<Option<Tree>, Refusal>
+    requires object { IsObject (groups_from (map named fields.now)) }
+    requires nodes { EachField HasEither MayHold (groups_from (map named fields.now)) }
+    requires shape { FieldsHaveShape (groups_from (map named fields.now)) (recs_from (map rec_of records.now)) }
+    requires leaves { leaf + groups_width (groups_from (map named fields.now)) < 2 ^ 32 }
+    requires deep { above + groups_nesting (groups_from (map named fields.now)) + 1 ≤ max_nesting }
+    ensures { Makes (option_map view) result (with_fields (groups_from (map named fields.now)) (option_map json_of value.entry) (fields_seen (reads mask.now) (names_of meta.now) (groups_from (map named fields.now)) leaf (above + 1) (recs_from (map rec_of records.now)))) }
+{
+    let left = left_over(alloc, fields, value)?;
+    let pairs = fields_seen(alloc, mask, meta, fields, leaf, above + 1, left, records)?;
+    match Members::from_pairs(pairs) {
+        Ok(members) => Ok(Some(Tree::Object(members))),
+        Err(_) => unreachable!(),
+    }
+}
+
+// The members that the fields give, after those that are left over.
+#[cycle(seen)]
+fn fields_seen(
+    alloc: Global,
+    mask: &[bool],
+    meta: &MetaRef,
+    fields: &[(Text, Node)],
+    leaf: usize,
+    above: u8,
+    left: Vec<(Text, Tree)>,
+    records: &[Record],
+) -> Result<Vec<(Text, Tree)>, Refusal>
+    requires nodes { EachField HasEither MayHold (groups_from (map named fields.now)) }
+    requires shape { FieldsHaveShape (groups_from (map named fields.now)) (recs_from (map rec_of records.now)) }
+    requires leaves { leaf + groups_width (groups_from (map named fields.now)) < 2 ^ 32 }
+    requires deep { above + groups_nesting (groups_from (map named fields.now)) ≤ max_nesting }
+    ensures { Makes (λ pairs. map pair_seen pairs.items) result (ahead (map pair_seen left.items) (fields_seen (reads mask.now) (names_of meta.now) (groups_from (map named fields.now)) leaf above (recs_from (map rec_of records.now)))) }
+{
+    let mut left = left;
+    let mut first = leaf;
+    for k in 0..fields.len() {
+        let node = &fields[k].1;
+        let found = match seen(alloc, mask, meta, node, first, above, &records[k]) {
+            Ok(found) => found,
+            Err(refused) => return Err(refused),
+        };
+        put_member(alloc, &fields[k].0, found, &mut left)?;
+        first += width(node);
+    }
+    Ok(left)
+}
+
+// A list, beside which no value may stand.
+#[cycle(seen)]
+#[tactic(auto, using(crate::proofs::Members::parts_back))]
+fn with_items(
+    alloc: Global,
+    mask: &[bool],
+    meta: &MetaRef,
+    node: &Node,
+    leaf: usize,
+    above: u8,
+    value: Option<ValueRef>,
+    records: &[Record],
+) -> Result<Option<Tree>, Refusal>
+    requires nodes { AreNodes (group_of node.now) }
+    requires shape { EachRec (HasShape (group_of node.now)) (recs_from (map rec_of records.now)) }
+    requires leaves { leaf + width (group_of node.now) < 2 ^ 32 }
+    requires deep { above + nesting (group_of node.now) + 1 ≤ max_nesting }
+    ensures { Makes (option_map view) result (with_items (option_map json_of value.entry) (items_seen (is_tested (reads mask.now) leaf (group_of node.now)) (seen (reads mask.now) (names_of meta.now) (group_of node.now) leaf (above + 1)) (recs_from (map rec_of records.now)))) }
+{
+    match value {
+        Some(_) => Err(Refusal::Fault(Rule::BothPresent)),
+        None => Ok(Some(Tree::Array(items_seen(
+            alloc,
+            mask,
+            meta,
+            node,
+            leaf,
+            above + 1,
+            records,
+        )?))),
+    }
+}
+
+// The elements of a list.
+#[cycle(seen)]
+#[tactic(auto, using(crate::proofs::Members::items_back, crate::proofs::Ahead::element_turn, crate::proofs::Ahead::elements_end))]
+fn items_seen(
+    alloc: Global,
+    mask: &[bool],
+    meta: &MetaRef,
+    node: &Node,
+    leaf: usize,
+    above: u8,
+    records: &[Record],
+) -> Result<Items, Refusal>
+    requires nodes { AreNodes (group_of node.now) }
+    requires shape { EachRec (HasShape (group_of node.now)) (recs_from (map rec_of records.now)) }
+    requires leaves { leaf + width (group_of node.now) < 2 ^ 32 }
+    requires deep { above + nesting (group_of node.now) ≤ max_nesting }
+    ensures { Makes items_of result (items_seen (is_tested (reads mask.now) leaf (group_of node.now)) (seen (reads mask.now) (names_of meta.now) (group_of node.now) leaf above) (recs_from (map rec_of records.now))) }
+{
+    let tested = is_tested(mask, leaf, node);
+    let mut trees = Vec::with_capacity(alloc, records.len())?;
+    for rec in records {
+        match seen(alloc, mask, meta, node, leaf, above, rec)? {
+            Some(tree) => trees.push(tree)?,
+            None => {
+                if tested {
+                    return Err(Refusal::Fault(Rule::ElementMissing));
+                }
+                trees.push(Tree::Null)?;
+            }
+        }
+    }
+    Ok(Items::from_vec(trees))
+}

@@ -1,0 +1,63 @@
+//! Rows.
+
+ghost use Rattle.std.specs.Prelude.{◌≡◌, ◌+◌, ◌≤◌};
+ghost use Rattle.std.specs.Option.{option_map};
+ghost use Rattle.json_tree.specs.View.{view};
+ghost use Rattle.vs_bytes.specs.Outcome.{Gives, Makes};
+ghost use Rattle.variant_meta.specs.MetaRefs.{names_of};
+ghost use Rattle.shred_schema.specs.Lawful.{IsWellFormed};
+ghost use Rattle.shred_schema.specs.Ranges.{reads};
+ghost use Rattle.shred_schema.specs.Shapes.{RowHasShape};
+ghost use Rattle.shred_schema.specs.Views.{group_of, row_rec_of};
+ghost use Rattle.unshredder.specs.Rows.{names_needed, row_seen};
+
+use crate::needing::has_value;
+use crate::records::seen;
+use json_tree::Tree;
+use shred_schema::{Column, Mask, RowRecord};
+use std::alloc::Global;
+use variant_meta::MetaRef;
+use vs_bytes::{Refusal, Rule};
+
+// The metadata of no names.
+const NO_NAMES: &[u8] = &[0x11, 0, 0];
+
+// The names of a row's metadata, where they are needed.
+fn names_needed(needed: bool, meta: &[u8]) -> Result<MetaRef<'_>, Rule>
+    ensures { Gives names_of result (names_needed needed meta.now) }
+{
+    if needed {
+        MetaRef::view(meta)
+    } else {
+        MetaRef::view(NO_NAMES)
+    }
+}
+
+/// The row of a row record, or the first rule that it violates (VariantShredding.md, "Reconstructing a Shredded
+/// Variant"). `None` where the row is absent.
+///
+/// `mask` says of each leaf whether it is read, in their order. What isn't read counts as missing, and no rule is tested
+/// that rests on it.
+#[tactic(auto, unfolding(crate::specs::Rows::row_seen))]
+pub fn unshred(
+    alloc: Global,
+    column: &Column,
+    row: &RowRecord,
+    mask: &Mask,
+) -> Result<Option<Tree>, Refusal>
+    requires column { IsWellFormed (group_of column.now.node) }
+    requires row { RowHasShape (group_of column.now.node) (row_rec_of row.now) }
+    ensures { Makes (option_map view) result (row_seen (reads mask.now) (group_of column.now.node) (row_rec_of row.now)) }
+{
+    match row {
+        RowRecord::Absent => Ok(None),
+        RowRecord::Present { meta, rec } => {
+            let needed = has_value(mask.as_slice(), &column.node, 1, rec);
+            let names = names_needed(needed, meta.as_slice())?;
+            match seen(alloc, mask.as_slice(), &names, &column.node, 1, 0, rec)? {
+                Some(tree) => Ok(Some(tree)),
+                None => Ok(Some(Tree::Null)),
+            }
+        }
+    }
+}
