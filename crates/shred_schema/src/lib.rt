@@ -35,4 +35,4 @@ pub use leaf_list::{LeafList, leaves};
 pub use masks::Mask;
 pub use nodes::{Column, FieldList, Node, Slot, Typed};
 pub use records::{Part, Record, RecordList, RowList, RowRecord};
-pub use widths::{typed_width, width};
+pub use widths::{slot_width, typed_width, width};

@@ -16,7 +16,8 @@ pub fn width(node: &Node) -> usize
     slot_width(node.value) + typed_width(&node.typed)
 }
 
-fn slot_width(value: Slot) -> usize
+/// How many leaf columns a value has.
+pub fn slot_width(value: Slot) -> usize
     ensures { result ≡ slot_width value }
 {
     match value {

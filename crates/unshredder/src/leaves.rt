@@ -6,7 +6,7 @@ ghost use Rattle.shred_schema.specs.Ranges.{reads, is_any_read};
 ghost use Rattle.shred_schema.specs.Views.{group_of, kind_of};
 ghost use Rattle.unshredder.specs.Seen.{is_part_read, is_tested};
 
-use shred_schema::{Node, kind_width, slot_width};
+use shred_schema::{Node, slot_width, typed_width};
 
 // Whether some of `count` leaves from `first` on is read.
 #[tactic(auto, using(crate::proofs::Walks::leaf_passed, crate::proofs::Walks::leaf_read))]
@@ -44,5 +44,5 @@ pub(crate) fn is_tested(mask: &[bool], leaf: usize, node: &Node) -> bool
     ensures { result ≡ is_tested (reads mask.now) leaf (group_of node.now) }
 {
     let value = slot_width(node.value);
-    is_part_read(mask, leaf, value) && is_part_read(mask, leaf + value, kind_width(&node.typed))
+    is_part_read(mask, leaf, value) && is_part_read(mask, leaf + value, typed_width(&node.typed))
 }

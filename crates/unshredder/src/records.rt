@@ -20,7 +20,7 @@ ghost use Rattle.unshredder.specs.Seen.{seen, typed_seen, fields_seen, items_see
 use crate::leaves::{is_any_read, is_tested};
 use crate::merging::{left_over, put_member, value_seen, whole, with_cell, without_fields};
 use json_tree::{Items, Members, Tree};
-use shred_schema::{Node, Part, Record, Typed, kind_width, slot_width, width};
+use shred_schema::{Node, Part, Record, Typed, slot_width, typed_width, width};
 use std::alloc::Global;
 use variant_meta::MetaRef;
 use variant_read::ValueRef;
@@ -46,7 +46,7 @@ pub(crate) fn seen(
 {
     let first = slot_width(node.value);
     let value = value_seen(*meta, above, is_any_read(mask, leaf, first), &rec.value)?;
-    if is_any_read(mask, leaf + first, kind_width(&node.typed)) {
+    if is_any_read(mask, leaf + first, typed_width(&node.typed)) {
         typed_seen(
             alloc,
             mask,
