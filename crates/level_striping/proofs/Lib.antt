@@ -1,0 +1,4 @@
+-- the leaves of a part
+pub mod OwnLeaves
+-- the entries of some documents
+pub mod Samples

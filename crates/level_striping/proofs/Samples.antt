@@ -1,0 +1,45 @@
+-- The entries of `{"t":[]}`, `{"t":null}`, `{}` and `{"t":["x",1,null]}` in the column of the schema `{t:[string]}`.
+use Rattle.std.proofs.Common.{◌≡◌, refl, ℕ, Bool, true, List, [], ◌∷◌, Option, Some, None}
+use Rattle.vs_bytes.specs.declared.leaf_columns.Cell.{Cell}
+use Rattle.vs_bytes.specs.declared.leaf_columns.Cell.TheVariants as leaf_cell
+use Rattle.vs_bytes.specs.declared.leaf_columns.Entry.{Entry}
+use Rattle.vs_bytes.specs.declared.leaf_columns.PrimKind.TheVariants as prim
+use Rattle.shred_schema.specs.declared.nodes.Slot.TheVariants.{Optional}
+use Rattle.shred_schema.specs.Groups.{Group, group, scalar, object_of, list_of, no_groups, field}
+use Rattle.shred_schema.specs.Recs.{Rec, rec, RecPart, empty, cell, fields, items, no_recs, recs, RowRec, present}
+use Rattle.level_striping.specs.Entries.{stripes}
+
+abbrev node : Group
+node = group Optional (object_of (field (116 ∷ []) (group Optional (list_of (group Optional (scalar prim.Text)))) no_groups))
+
+abbrev with_t : Rec → RowRec
+with_t x = present (17 ∷ 1 ∷ 0 ∷ 1 ∷ 116 ∷ []) (rec None (fields (recs x no_recs)))
+
+abbrev rows : List RowRec
+rows =
+    with_t (rec None (items no_recs))
+    ∷ with_t (rec (Some (0 ∷ [])) empty)
+    ∷ present (17 ∷ 0 ∷ 0 ∷ []) (rec None (fields (recs (rec None empty) no_recs)))
+    ∷ with_t (rec None (items (recs (rec None (cell (leaf_cell.Bytes (120 ∷ [])))) (recs (rec (Some (12 ∷ 1 ∷ [])) empty) (recs (rec (Some (0 ∷ [])) empty) no_recs)))))
+    ∷ []
+
+abbrev null : ℕ → ℕ → Entry
+null r d = record { rep = r; def = d; value = None }
+
+abbrev bytes : ℕ → ℕ → List ℕ → Entry
+bytes r d b = record { rep = r; def = d; value = Some (leaf_cell.Bytes b) }
+
+metadata_leaf : stripes true node rows 0 ≡ bytes 0 1 (17 ∷ 1 ∷ 0 ∷ 1 ∷ 116 ∷ []) ∷ bytes 0 1 (17 ∷ 1 ∷ 0 ∷ 1 ∷ 116 ∷ []) ∷ bytes 0 1 (17 ∷ 0 ∷ 0 ∷ []) ∷ bytes 0 1 (17 ∷ 1 ∷ 0 ∷ 1 ∷ 116 ∷ []) ∷ []
+metadata_leaf = refl
+
+value_leaf : stripes true node rows 1 ≡ null 0 1 ∷ null 0 1 ∷ null 0 1 ∷ null 0 1 ∷ []
+value_leaf = refl
+
+t_value_leaf : stripes true node rows 2 ≡ null 0 2 ∷ bytes 0 3 (0 ∷ []) ∷ null 0 2 ∷ null 0 2 ∷ []
+t_value_leaf = refl
+
+element_value_leaf : stripes true node rows 3 ≡ null 0 3 ∷ null 0 2 ∷ null 0 2 ∷ null 0 4 ∷ bytes 1 5 (12 ∷ 1 ∷ []) ∷ bytes 1 5 (0 ∷ []) ∷ []
+element_value_leaf = refl
+
+element_typed_leaf : stripes true node rows 4 ≡ null 0 3 ∷ null 0 2 ∷ null 0 2 ∷ bytes 0 5 (120 ∷ []) ∷ null 1 4 ∷ null 1 4 ∷ []
+element_typed_leaf = refl

@@ -1,0 +1,4 @@
+-- the entries of records, rows and columns
+pub mod Entries
+-- entries that were put into leaves
+pub mod Gains
