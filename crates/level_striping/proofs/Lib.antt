@@ -2,3 +2,5 @@
 pub mod OwnLeaves
 -- the entries of some documents
 pub mod Samples
+-- walks over fields, items and rows
+pub mod Walks

@@ -2,5 +2,21 @@
 //! parquet-format README, "Nested Encoding").
 //!
 //! `specs/Entries.antt` defines the entries of a record. Leaf 0 of a column is the metadata, and its node begins at
-//! leaf 1.
+//! leaf 1. One walk over a record gives the entries of all leaves.
+//!
+//! | Module | What it holds |
+//! |---|---|
+//! | `levels` | `Levels`: where a record stands |
+//! | `widths` | the leaf after a node's leaves |
+//! | `putting` | the entries of one leaf, and entries without value in many |
+//! | `values` | values and absent parts |
+//! | `striping` | `stripe`: the entries of rows in all leaves |
 #![tactic(auto)]
+
+mod levels;
+mod putting;
+mod striping;
+mod values;
+mod widths;
+
+pub use striping::{Stripes, stripe};
