@@ -10,6 +10,8 @@ pub mod Decimals
 pub mod Indexes
 -- the lengths of what is spelled
 pub mod Lengths
+-- the canonical spelling of a string is no longer than any other
+pub mod QuotedLengths
 -- what is read is spelled
 pub mod Sound
 -- what is read of a string is spelled
