@@ -1,2 +1,3 @@
+pub mod ChunkRanges
 pub mod ColumnChunks
 pub mod Entries

@@ -10,13 +10,16 @@
 //! | `entries` | `Entry`: what a field holds; numbers, binaries, structs |
 //! | `lists` | `ListOf`: lists of entries |
 //! | `column_chunks` | `ChunkMeta`, `ColumnMeta`, `Stats`, read |
+//! | `chunk_ranges` | `chunk_range`: where the bytes of a column chunk stand |
 #![tactic(auto)]
 
+mod chunk_ranges;
 mod column_chunks;
 mod drafts;
 mod entries;
 mod lists;
 
+pub use chunk_ranges::chunk_range;
 pub use column_chunks::{ChunkDraft, ChunkMeta, ColumnDraft, ColumnMeta, Stats, StatsDraft};
 pub use drafts::{Draft, read_struct};
 pub use entries::{Entry, StructOf, put};
