@@ -1,1 +1,2 @@
+pub mod PageCuts
 pub mod Turns

@@ -1,6 +1,7 @@
 //! Column chunks: the entries of their pages (README.md of parquet-format, "Column chunks").
 //!
-//! What a chunk holds, and the order of its rules, is defined in `specs/Turns.antt`.
+//! What a chunk holds, and the order of its rules, is defined in `specs/Turns.antt`; where the writer cuts its pages,
+//! in `specs/PageCuts.antt`.
 //!
 //! | Module | What it holds |
 //! |---|---|
@@ -10,8 +11,11 @@
 #![tactic(auto)]
 
 mod chunk_reader;
+mod chunk_writing;
 mod laws;
+mod page_cuts;
 mod page_walk;
 
 pub use chunk_reader::ChunkReader;
-pub use laws::written_pages_read_back;
+pub use chunk_writing::write_chunk;
+pub use laws::{written_chunks_read_back, written_pages_read_back};
