@@ -5,6 +5,7 @@ pub mod PagesBack
 pub mod ReadBack
 mod Samples
 pub mod SkipsBack
+pub mod SlotsBack
 pub mod Skipped
 pub mod TreeEnds
 pub mod TreesBack

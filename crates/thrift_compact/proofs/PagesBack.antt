@@ -1,13 +1,12 @@
 -- Page headers that are written read back.
-use Rattle.std.proofs.Common.{◌≡◌, inl, inr, refl, ap, subst, ℕ, ◌-◌, ◌^◌, ◌<◌, ◌≤◌, nat_lt, List, ◌++◌, length, ℤ, pos, negsuc, int_lt, Option, None, Some, IfSome, Ok, true, false, arith}
-use Rattle.std.proofs.lemmas.Bool.Decides.{nat_tests}
+use Rattle.std.proofs.Common.{◌≡◌, inl, inr, refl, subst, ℕ, ◌-◌, List, ◌++◌, length, pos, Option, Some, IfSome, Ok, true, arith}
 use Rattle.std.proofs.lemmas.List.{length-append}
-use Rattle.thrift_compact.specs.Trees.{Value, Fields, no_fields, with_field}
+use Rattle.thrift_compact.specs.Trees.{Fields, no_fields}
 use Rattle.thrift_compact.specs.Coded.{maybe, fields_coded}
 use Rattle.thrift_compact.specs.Fitting.{AllFields, FitsField}
-use Rattle.thrift_compact.specs.Slots.{filled, optional}
+use Rattle.thrift_compact.specs.Slots.{filled}
 use Rattle.thrift_compact.specs.PageHeaders.{data_shapes, data_put, data_finish, data_of, dict_shapes, dict_put, dict_finish, dict_of, data_v2_shapes, data_v2_put, data_v2_finish, data_v2_of, page_shapes, page_put, page_finish, page_of, has_inner, with_inner, page_header}
-use Rattle.thrift_compact.specs.PageWriting.{data_fields, data_tree, dict_fields, dict_tree, data_v2_fields, data_v2_tree, page_fields, IsCount, DataHeaderCounts, DictHeaderCounts, DataHeaderV2Counts, IsWritable, DataHeaderI32s, DictHeaderI32s, DataHeaderV2I32s, HasI32s}
+use Rattle.thrift_compact.specs.PageWriting.{data_fields, data_tree, dict_fields, dict_tree, data_v2_fields, data_v2_tree, page_fields, DataHeaderCounts, DictHeaderCounts, DataHeaderV2Counts, IsWritable, DataHeaderI32s, DictHeaderI32s, DataHeaderV2I32s, HasI32s}
 use Rattle.thrift_compact.specs.declared.slots.Slot.{Slot}
 use Rattle.thrift_compact.specs.declared.slots.Slot.TheVariants.{Missing, Found}
 use Rattle.thrift_compact.specs.declared.page_headers.DataHeader.{DataHeader}
@@ -15,27 +14,8 @@ use Rattle.thrift_compact.specs.declared.page_headers.DictHeader.{DictHeader}
 use Rattle.thrift_compact.specs.declared.page_headers.DataHeaderV2.{DataHeaderV2}
 use Rattle.thrift_compact.specs.declared.page_headers.PageHeader.{PageHeader}
 use Rattle.thrift_compact.specs.declared.page_headers.PageSlots.{PageSlots}
+use Rattle.thrift_compact.proofs.SlotsBack.{not_negative, slot_of, optional_slot, step, maybe_fit}
 use Rattle.thrift_compact.proofs.TreesBack.{struct_reads_back}
-
--- The slots of a struct that was written.
-
-not_negative : (z : ℤ) → IsCount z → int_lt z (pos 0) ≡ false
-not_negative (pos n) c = (let e : nat_lt n 0 ≡ false = grind (arith, nat_tests) in e)
-not_negative (negsuc n) c = absurd (grind (arith, nat_tests))
-
-abbrev pub slot_of : {A : Type 0} → Option A → Slot A
-slot_of None = Missing
-slot_of (Some a) = Found a
-
-optional_slot : {A : Type 0} (x : Option A) → optional (slot_of x) ≡ Some x
-optional_slot None = refl
-optional_slot (Some a) = refl
-
--- an optional field fills its slot
-step : {A D : Type 0} (put : D → ℤ → Value → D) (set : Slot A → D) (i : ℤ) (tree : A → Value) (x : Option A) (fs : Fields) → ((a : A) → x ≡ Some a → put (set Missing) i (tree a) ≡ set (Found a)) → filled put (set Missing) (maybe i tree x fs) ≡ filled put (set (slot_of x)) fs
-unfolding filled
-step put set i tree None fs h = refl
-step {D = D} put set i tree (Some a) fs h = ap (λ (d : D). filled put d fs) (h a refl)
 
 data_again : (h : DataHeader) → DataHeaderCounts h → data_of (data_fields h) ≡ Some h
 unfolding filled data_put data_finish data_fields
@@ -79,14 +59,6 @@ page_again h w =
     (inner_kept h w.inner)
 
 -- What the tables allow.
-
-weaken : (Allowed : ℤ → Value → Type 0) (last i : ℕ) (fs : Fields) → last ≤ i → AllFields Allowed i fs → AllFields Allowed last fs
-weaken Allowed last i no_fields h f = tt
-weaken Allowed last i (with_field id v fs) h f = (f.0, omega (arith, h, f.1), f.2, f.3, f.4)
-
-maybe_fit : {A : Type 0} (Allowed : ℤ → Value → Type 0) (last i : ℕ) (tree : A → Value) (x : Option A) (fs : Fields) → last < i → i < 2 ^ 15 → ((a : A) → x ≡ Some a → Allowed (pos i) (tree a)) → AllFields Allowed i fs → AllFields Allowed last (maybe (pos i) tree x fs)
-maybe_fit Allowed last i tree None fs rises small g f = weaken Allowed last i fs (omega (arith, rises)) f
-maybe_fit Allowed last i tree (Some a) fs rises small g f = (refl, rises, small, g a refl, f)
 
 data_fit : (h : DataHeader) → DataHeaderI32s h → AllFields (FitsField data_shapes) 0 (data_fields h)
 unfolding data_shapes data_fields

@@ -7,7 +7,7 @@ use Rattle.vs_bytes.specs.declared.rule.Rule.TheVariants.{Thrift}
 use Rattle.thrift_compact.specs.Numbers.{Read, mapped, int8, signed, binary}
 use Rattle.thrift_compact.specs.Headers.{field_id, field, list}
 use Rattle.thrift_compact.specs.Skipping.{max_nesting, elements, skipped}
-use Rattle.thrift_compact.specs.Trees.{Value, Elements, Fields, other, bool_value, i8_value, i32_value, i64_value, binary_value, list_value, struct_value, with_element, with_field, Shape, Shapes, bools, i8s, i32s, i64s, binaries, lists, structs, unknown, known, is_of, is_element, FieldRead, passed_over, one_field, fields_at, struct_at, elements_at, list_at, shaped, known_at}
+use Rattle.thrift_compact.specs.Trees.{Value, Fields, other, i8_value, i32_value, i64_value, binary_value, list_value, struct_value, with_element, with_field, Shape, Shapes, bools, i8s, i32s, i64s, binaries, lists, structs, unknown, known, is_of, is_element, FieldRead, passed_over, one_field, fields_at, struct_at, elements_at, list_at, shaped, known_at}
 use Rattle.thrift_compact.proofs.Ends.{Ends, Leaves, all_tail, tail_end, end_len, ends_then, ends_if, ends_within, id_ends, int8_ends, signed_ends, binary_ends, field_ends, list_ends, elements_leaves, skipped_leaves}
 
 mapped_ends : {A B : Type 0} (view : A → B) (read : Read A) (bytes : List ℕ) → Ends read bytes → Ends (mapped view read) bytes

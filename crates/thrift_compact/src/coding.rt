@@ -1,6 +1,6 @@
 //! How values are written: `Code`, and the plain types.
 
-ghost use Rattle.std.specs.Prelude.{◌≡◌, ◌≤◌, ◌++◌, ℕ, Bool, true, OnOk, IfOk, IfSome, unsigned_abs};
+ghost use Rattle.std.specs.Prelude.{◌≡◌, ◌≤◌, ◌++◌, ℕ, OnOk, IfOk, IfSome, unsigned_abs};
 ghost use Rattle.vs_bytes.specs.Outcome.{Grows};
 ghost use Rattle.thrift_compact.specs.Trees.{Value, Fields, bool_value, i8_value, i32_value, i64_value, binary_value, no_fields, with_field};
 ghost use Rattle.thrift_compact.specs.Coded.{kind_of, coded, fields_coded, maybe};
@@ -15,7 +15,7 @@ pub trait Code {
     ghost tree: { Self.Of → Value };
 
     // Whether the value has bytes.
-    ghost fits: { Self.Of → Bool };
+    ghost fits: { Self.Of → Type 0 };
 
     /// The type of a value.
     fn kind(value: &Self::Of) -> u8
@@ -24,7 +24,7 @@ pub trait Code {
 
     /// Appends the bytes of a value. After an `Err` some front of them may be appended.
     fn write(into: &mut Vec<u8>, value: &Self::Of) -> Result<(), NoMemory>
-        requires { fits value.now ≡ true }
+        requires { fits value.now }
         ensures ok { OnOk result (into.new.items ≡ into.old.items ++ coded (tree value.now)) }
         ensures grows { Grows into.old.items into.new.items };
 }
@@ -37,7 +37,7 @@ pub fn append_field<C: Code>(
     id: i16,
     value: &C::Of,
 ) -> Result<(), NoMemory>
-    requires { C.fits value.now ≡ true }
+    requires { C.fits value.now }
     ensures ok { OnOk result ((fs : Fields) → into.new.items ++ fields_coded (unsigned_abs id) fs ≡ into.old.items ++ fields_coded last (with_field id (C.tree value.now) fs)) }
     ensures grows { Grows into.old.items into.new.items }
 {
@@ -53,7 +53,7 @@ pub fn append_maybe<C: Code>(
     id: i16,
     value: &Option<C::Of>,
 ) -> Result<u16, NoMemory>
-    requires { IfSome value.now (λ x. C.fits x ≡ true) }
+    requires { IfSome value.now C.fits }
     ensures ok { IfOk result (λ now. (fs : Fields) → into.new.items ++ fields_coded now fs ≡ into.old.items ++ fields_coded last (maybe id C.tree value.now fs)) }
     ensures grows { Grows into.old.items into.new.items }
 {
@@ -84,7 +84,7 @@ impl Code for Int8 {
 
     ghost tree = { i8_value };
 
-    ghost fits = { λ _. true };
+    ghost fits = { λ _. Unit {0} };
 
     fn kind(_value: &i8) -> u8 {
         3
@@ -104,7 +104,7 @@ impl Code for Int32 {
 
     ghost tree = { i32_value };
 
-    ghost fits = { λ _. true };
+    ghost fits = { λ _. Unit {0} };
 
     fn kind(_value: &i32) -> u8 {
         5
@@ -124,7 +124,7 @@ impl Code for Int64 {
 
     ghost tree = { i64_value };
 
-    ghost fits = { λ _. true };
+    ghost fits = { λ _. Unit {0} };
 
     fn kind(_value: &i64) -> u8 {
         6
@@ -144,7 +144,7 @@ impl Code for Truth {
 
     ghost tree = { bool_value };
 
-    ghost fits = { λ _. true };
+    ghost fits = { λ _. Unit {0} };
 
     fn kind(value: &bool) -> u8 {
         if *value { 1 } else { 2 }
@@ -164,7 +164,7 @@ impl Code for Binary {
 
     ghost tree = { binary_value };
 
-    ghost fits = { λ _. true };
+    ghost fits = { λ _. Unit {0} };
 
     fn kind(_value: &Bytes) -> u8 {
         8
@@ -187,7 +187,7 @@ impl<'a> Code for Part<'a> {
 
     ghost tree = { λ p. binary_value p.part.now };
 
-    ghost fits = { λ _. true };
+    ghost fits = { λ _. Unit {0} };
 
     fn kind(_value: &Part<'a>) -> u8 {
         8

@@ -17,7 +17,7 @@ impl Code for DataCode {
 
     ghost tree = { data_tree };
 
-    ghost fits = { λ _. true };
+    ghost fits = { λ _. Unit {0} };
 
     fn kind(_value: &DataHeader) -> u8 {
         12
@@ -41,7 +41,7 @@ impl Code for DictCode {
 
     ghost tree = { dict_tree };
 
-    ghost fits = { λ _. true };
+    ghost fits = { λ _. Unit {0} };
 
     fn kind(_value: &DictHeader) -> u8 {
         12
@@ -63,7 +63,7 @@ impl Code for DataV2Code {
 
     ghost tree = { data_v2_tree };
 
-    ghost fits = { λ _. true };
+    ghost fits = { λ _. Unit {0} };
 
     fn kind(_value: &DataHeaderV2) -> u8 {
         12

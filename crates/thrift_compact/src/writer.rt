@@ -74,7 +74,7 @@ impl Writer {
         requires open_struct { is_open self.old ≡ true }
         requires no_list { left_of self.old ≡ 0 }
         requires rising { pos (last_of self.old) <ℤ id }
-        requires fits { C.fits value.now ≡ true }
+        requires fits { C.fits value.now }
         ensures ok { OnOk result (WritesField self.old self.new id (C.tree value.now)) }
         ensures err { OnErr result (IsAsBefore self.old self.new) }
     {
@@ -179,7 +179,7 @@ impl Writer {
         requires open_struct { is_open self.old ≡ true }
         requires wanted { 0 < left_of self.old }
         requires kind { kind_left self.old ≡ kind_of (C.tree value.now) }
-        requires fits { C.fits value.now ≡ true }
+        requires fits { C.fits value.now }
         ensures ok { OnOk result (WritesElement self.old self.new (C.tree value.now)) }
         ensures err { OnErr result (IsAsBefore self.old self.new) }
     {
