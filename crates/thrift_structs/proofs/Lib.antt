@@ -1,2 +1,5 @@
+pub mod ChunksBack
 pub mod FieldValues
 pub mod Items
+pub mod Listed
+mod Samples

@@ -138,7 +138,7 @@ impl Entry for Binary {
 }
 
 /// A struct.
-pub struct StructOf<D: Draft> {
+pub struct StructOf<D> {
     of: PhantomData<D>,
 }
 

@@ -9,18 +9,25 @@
 //! | `drafts` | `Draft`: a struct by the slots of its fields |
 //! | `entries` | `Entry`: what a field holds; numbers, binaries, structs |
 //! | `lists` | `ListOf`: lists of entries |
-//! | `column_chunks` | `ChunkMeta`, `ColumnMeta`, `Stats`, read |
+//! | `codes` | `StructCode`, `ElementCode`: how structs and lists are written |
+//! | `column_chunks`, `chunk_writing` | `ChunkMeta`, `ColumnMeta`, `Stats`, read; written |
 //! | `chunk_ranges` | `chunk_range`: where the bytes of a column chunk stand |
+//! | `laws` | what is written reads back |
 #![tactic(auto)]
 
 mod chunk_ranges;
+mod chunk_writing;
+mod codes;
 mod column_chunks;
 mod drafts;
 mod entries;
+mod laws;
 mod lists;
 
 pub use chunk_ranges::chunk_range;
+pub use codes::{ElementCode, StructCode, write_struct};
 pub use column_chunks::{ChunkDraft, ChunkMeta, ColumnDraft, ColumnMeta, Stats, StatsDraft};
 pub use drafts::{Draft, read_struct};
 pub use entries::{Entry, StructOf, put};
+pub use laws::column_chunks_read_back;
 pub use lists::ListOf;

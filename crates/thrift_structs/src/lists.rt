@@ -14,7 +14,7 @@ use thrift_compact::{list_at, pass_elements};
 use vs_bytes::{NoMemory, Refusal, Sequence};
 
 /// A list of entries: it has a meaning where each of its elements has one.
-pub struct ListOf<E: Entry> {
+pub struct ListOf<E> {
     of: PhantomData<E>,
 }
 
