@@ -3,3 +3,4 @@ pub mod FieldValues
 pub mod Items
 pub mod Listed
 mod Samples
+pub mod RangeSamples
