@@ -1,6 +1,7 @@
 //! What is printed of each document is gathered, and written in pieces.
 
-ghost use Rattle.outside.specs.Output.{output_of};
+ghost use Rattle.std.specs.Prelude.{◌<◌, length};
+ghost use Rattle.outside.specs.Output.{output_of, piece_size};
 ghost use Rattle.variant_store.specs.Gathering.{Gathers, GathersUpTo};
 ghost use Rattle.variant_store.specs.Beginning.{gathers_nothing};
 
@@ -19,7 +20,7 @@ pub enum OutputFault {
     Write(SinkError),
 }
 
-/// What a printer printed, as far as it isn't written yet.
+/// What a printer printed, as far as it isn't written yet: between two documents, less than a piece.
 #[derive(Drop)]
 pub struct Gatherer<P: Printer> {
     pub printer: P,
@@ -29,7 +30,7 @@ pub struct Gatherer<P: Printer> {
 impl<O: Sink, P: Printer> Taker<O> for Gatherer<P> {
     type Fault = OutputFault;
 
-    ghost ready = { λ g out. Unit {0} };
+    ghost ready = { λ g out. length g.output.pending.items < piece_size };
 
     ghost took = { λ a first documents b now. Gathers (P.stream a.printer) (P.stream b.printer) (output_of (O.seen first) a.output.pending.items) (output_of (O.seen now) b.output.pending.items) documents };
 
