@@ -1,8 +1,8 @@
 //! One call of the program.
 
-ghost use Rattle.std.specs.Prelude.{◌<◌};
+ghost use Rattle.std.specs.Prelude.{◌<◌, None};
 
-use outside::{MemSink, MemSource};
+use outside::{MemSink, MemSource, Sink, SinkError};
 use std::alloc::Global;
 use variant_store::{Word, vstore};
 use vs_bytes::{NoMemory, Text};
@@ -38,6 +38,27 @@ pub fn call(
         &mut outcome.err,
     );
     outcome
+}
+
+// A sink that has no memory for what is written to it.
+#[derive(Drop)]
+struct FullSink;
+
+impl Sink for FullSink {
+    ghost seen = { λ s. record { bytes = None; faults = 0 } };
+
+    fn write(&mut self, _bytes: &[u8]) -> Result<usize, SinkError> {
+        Err(SinkError::NoMemory)
+    }
+}
+
+/// Calls the program on an output that has no memory: the status, and what the error output holds.
+pub fn call_full(alloc: Global, words: &[Word], input: &[u8]) -> Result<(u8, MemSink), NoMemory> {
+    let mut source = MemSource::new(Vec::from_slice(alloc, input)?, 64, Vec::new(alloc));
+    let mut out = FullSink;
+    let mut err = MemSink::new(alloc, Vec::new(alloc));
+    let status = vstore(alloc, words, &mut source, &mut out, &mut err);
+    Ok((status, err))
 }
 
 /// Calls the program, its input in pieces of at most so many bytes.

@@ -1,4 +1,4 @@
-//! Each read and each write failing in turn, and sources and sinks in pieces.
+//! Each read and each write failing in turn, sources and sinks in pieces, and a sink without memory.
 
 ghost use Rattle.std.specs.Prelude.{◌<◌};
 
@@ -6,7 +6,7 @@ use outside::{MemSink, MemSource};
 use std::alloc::Global;
 use std::process::Abort;
 use std::test::Fail;
-use test_runs::{Outcome, call, words_of};
+use test_runs::{Outcome, call, call_full, words_of};
 use vs_bytes::NoMemory;
 
 const INPUT: &[u8] = b"{\"a\":1}\n\n{\"a\":22}\n{\"b\":3}\n{\"a\":[4]}";
@@ -148,5 +148,15 @@ fn a_failed_error_output_keeps_the_status(rt: HostRuntime) -> Result<(), Fail> {
     let run = run_failing_err(rt.alloc(), "$.a", b"{}")?;
     assert_eq!(&rt; run.status, 0);
     assert!(&rt; run.err.bytes().is_empty());
+    Ok(())
+}
+
+// An output that has no memory for a byte: status 7, and its line.
+#[test]
+fn want_of_memory_is_named(rt: HostRuntime) -> Result<(), Fail> {
+    let words = words_of(rt.alloc(), &["scan", "$"])?;
+    let (status, err) = call_full(rt.alloc(), words.as_slice(), b"1\n")?;
+    assert_eq!(&rt; status, 7);
+    assert_eq!(&rt; err.bytes(), b"vstore: no memory\n".as_slice());
     Ok(())
 }

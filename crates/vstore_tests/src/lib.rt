@@ -7,7 +7,7 @@
 //! | `rows` | lines, values and faults: what is printed for an input |
 //! | `limits` | the depth of a line, its length, output of many pieces |
 //! | `variants` | the bytes of documents as Variants |
-//! | `devices` | each read and each write failing in turn, and sources and sinks in pieces |
+//! | `devices` | each read and each write failing in turn, sources and sinks in pieces, a sink without memory |
 #![tactic(auto)]
 
 #[cfg(test)]
