@@ -7,6 +7,10 @@
 #![tactic(auto)]
 
 #[cfg(test)]
+mod cells;
+#[cfg(test)]
 mod levels;
+#[cfg(test)]
+mod runs;
 #[cfg(test)]
 mod values;
