@@ -50,6 +50,7 @@ fn text(alloc: Global, bytes: &[u8]) -> Result<Cell, Refusal>
 }
 
 // What the bytes of a BYTE_ARRAY hold.
+#[inline(always)]
 fn array_held(alloc: Global, kind: Prim, bytes: &[u8]) -> Result<Cell, Refusal>
     ensures { Makes (λ c. c) result (array_held kind bytes.now) }
 {
@@ -105,6 +106,7 @@ fn array_len(bytes: &[u8]) -> usize
     Le::<4>::read(bytes, 0) as usize
 }
 
+#[inline(always)]
 #[tactic(auto, unfolding(crate::specs::Plain::array))]
 fn array(alloc: Global, kind: Prim, bytes: &[u8]) -> Result<(Cell, usize), Refusal>
     ensures exact { Makes (λ c. c) result (array kind bytes.now) }
@@ -124,6 +126,7 @@ fn array(alloc: Global, kind: Prim, bytes: &[u8]) -> Result<(Cell, usize), Refus
 }
 
 /// The cell of any type but BOOLEAN at the front, and how many bytes it takes.
+#[inline(always)]
 pub(crate) fn front_cell(alloc: Global, leaf: &Leaf, bytes: &[u8]) -> Result<(Cell, usize), Refusal>
     ensures exact { Makes (λ c. c) result (front_cell leaf.now.phys leaf.now.prim bytes.now) }
     ensures within { IfOk result (λ c. c.1 ≤ length bytes.now) }

@@ -95,6 +95,7 @@ fn append_array(into: &mut Vec<u8>, kind: Prim, cell: &Cell) -> Result<(), NoMem
 /// there.
 ///
 /// For a caller that holds its cells apart.
+#[inline(always)]
 pub fn append_cell(into: &mut Vec<u8>, leaf: &Leaf, cell: &Cell) -> Result<(), NoMemory>
     requires { IsCell leaf.now.phys leaf.now.prim cell.now }
     ensures ok { OnOk result (into.new.items ≡ into.old.items ++ cell_written leaf.now.phys cell.now) }

@@ -9,7 +9,8 @@ use crate::cell_reading::front_cell;
 use std::alloc::Global;
 use vs_bytes::{Cells, Leaf, Phys, Refusal, Refused, rest};
 
-// Cells that are read one by one.
+// Cells that are read one by one. It is put in line where the type is known, so that each type has a loop of its own.
+#[inline(always)]
 fn cells(alloc: Global, leaf: &Leaf, count: usize, bytes: &[u8]) -> Result<Cells, Refusal>
     ensures { Makes (λ cells. cells) result (cells (front_cell leaf.now.phys leaf.now.prim) count bytes.now) }
 {
@@ -42,6 +43,27 @@ pub fn decode(alloc: Global, leaf: &Leaf, count: usize, bytes: &[u8]) -> Result<
 {
     match leaf.phys {
         Phys::Boolean => booleans(alloc, count, bytes),
+        Phys::Int32 => {
+            let integers = Leaf {
+                phys: Phys::Int32,
+                ..*leaf
+            };
+            cells(alloc, &integers, count, bytes)
+        }
+        Phys::Int64 => {
+            let integers = Leaf {
+                phys: Phys::Int64,
+                ..*leaf
+            };
+            cells(alloc, &integers, count, bytes)
+        }
+        Phys::ByteArray => {
+            let arrays = Leaf {
+                phys: Phys::ByteArray,
+                ..*leaf
+            };
+            cells(alloc, &arrays, count, bytes)
+        }
         _ => cells(alloc, leaf, count, bytes),
     }
 }

@@ -45,6 +45,8 @@ fn append_booleans(into: &mut Vec<u8>, cells: &[Cell]) -> Result<(), NoMemory>
     Ok(())
 }
 
+// It is put in line where the type is known, so that each type has a loop of its own.
+#[inline(always)]
 #[tactic(auto, using(vs_bytes::proofs::Growing::grows_on))]
 fn append_cells(into: &mut Vec<u8>, leaf: &Leaf, cells: &[Cell]) -> Result<(), NoMemory>
     requires { All (λ c. IsCell leaf.now.phys leaf.now.prim c) cells.now }
@@ -67,6 +69,20 @@ pub fn append(into: &mut Vec<u8>, leaf: &Leaf, cells: &[Cell]) -> Result<(), NoM
 {
     match leaf.phys {
         Phys::Boolean => append_booleans(into, cells),
+        Phys::Int32 => {
+            let integers = Leaf {
+                phys: Phys::Int32,
+                ..*leaf
+            };
+            append_cells(into, &integers, cells)
+        }
+        Phys::Int64 => {
+            let integers = Leaf {
+                phys: Phys::Int64,
+                ..*leaf
+            };
+            append_cells(into, &integers, cells)
+        }
         _ => append_cells(into, leaf, cells),
     }
 }
