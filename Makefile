@@ -1,6 +1,7 @@
 CRATE ?= exact_json
 PROGRAM = crates/vstore/out/vstore
 COST = crates/variant_cost/out/variant_cost
+COLUMN_COST = crates/column_cost/out/column_cost
 PREFIX ?= /usr/local
 
 .PHONY: demo build install test check fmt bench
@@ -20,4 +21,5 @@ fmt:                ## lays out every crate
 	@for c in crates/*/; do (cd $$c && rt fmt) || exit 1; done
 bench: build        ## times the program on generated data, beside its peers
 	@cd crates/variant_cost && rt run -- view 0 < stdin > /dev/null
-	@COST=$(COST) bench/run.sh $(PROGRAM)
+	@cd crates/column_cost && rt run -- runs 0 > /dev/null
+	@COST=$(COST) COLUMN_COST=$(COLUMN_COST) bench/run.sh $(PROGRAM)

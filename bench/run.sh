@@ -4,11 +4,13 @@
 #
 # usage: bench/run.sh PROGRAM [MEGABYTES..]
 #
-# The environment may name the program `variant_cost` as COST: then reading Variant bytes is counted too.
+# The environment may name the program `variant_cost` as COST: then reading Variant bytes is counted too. And it may name
+# the program `column_cost` as COLUMN_COST: then so are the values of columns.
 set -eu
 here=$(cd "$(dirname "$0")" && pwd)
 program=$(realpath "$1")
 cost=${COST:-}
+column_cost=${COLUMN_COST:-}
 shift
 sizes=${*:-10 100}
 work=$(mktemp -d)
@@ -141,6 +143,17 @@ if command -v valgrind > /dev/null; then
             trees=$(spent tree 2000)
             bytes=$(awk '{print $1}' "$work/out")
             python3 -c "print(f'| $shape | $bytes | {($views - $base) / 2000 / $bytes:.1f} | {($trees - $base) / 2000 / $bytes:.1f} |')"
+        done
+    fi
+
+    # a million values of columns, read and written; start-up and the making of the values taken off
+    if [ -n "$column_cost" ]; then
+        echo
+        echo "| a million values | instructions per value |"
+        echo "|---|---|"
+        turns() { valgrind --tool=callgrind --callgrind-out-file=/dev/null "$column_cost" "$1" "$2" 2>&1 > /dev/null | awk '/Collected/ {print $4}'; }
+        for what in runs packed-1 packed-3 packed-17 write-levels read-integers write-integers read-texts write-texts read-page write-page; do
+            python3 -c "print(f'| $what | {($(turns $what 1) - $(turns $what 0)) / 1000000:.1f} |')"
         done
     fi
 
