@@ -153,13 +153,13 @@ fn read_count(alloc: Global, at: usize) -> Result<usize, NoMemory> {
     Ok(count)
 }
 
-// Each byte of the value may be any, and so may the last byte of the levels, which but fills up their group. Any other
-// byte has some values with which the page isn't read.
+// Each byte of the value may be any, and so may both bytes of the group of levels: two bits are no level above 3, and
+// the other numbers fill up the group. Any other byte has some values with which the page isn't read.
 #[test]
 fn a_page_with_one_other_byte_is_read_or_violates_a_rule(rt: HostRuntime) -> Result<(), Fail> {
     for at in 0..32usize {
         let count = read_count(rt.alloc(), at)?;
-        if at >= 23 {
+        if at >= 22 {
             assert!(&rt; count == 256);
         } else {
             assert!(&rt; 1 <= count && count < 256);
