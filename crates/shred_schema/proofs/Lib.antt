@@ -2,6 +2,8 @@
 pub mod CellFacts
 -- values that fit, and their cells
 pub mod FitFacts
+-- loops over fields that are projected
+pub mod KeptFields
 -- ranges of leaves
 pub mod LeafRanges
 -- nodes of well-formed columns

@@ -23,7 +23,7 @@ mapped v (Some p) = refl
 pub rec_is : (x : Record) → rec_of x ≡ rec x.value (part_or_empty (option_map part_of x.typed))
 rec_is x = fold_out-Record RecPart Rec part_step rec_step x ∙ mapped x.value x.typed
 
-kind_of_fields : (fs : FieldList) → kind_of (typed.Fields fs) ≡ object_of (groups_of fs)
+pub kind_of_fields : (fs : FieldList) → kind_of (typed.Fields fs) ≡ object_of (groups_of fs)
 kind_of_fields fs = search (rules, the_lemmas)
 
 pub kind_is_object : (fs : FieldList) → kind_of (typed.Fields fs) ≡ object_of (groups_from (map named (fields_in fs)))

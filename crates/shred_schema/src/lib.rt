@@ -12,6 +12,7 @@
 //! | `kinds` | `prim_of`, `form_of`: kinds of cells by physical type and annotation |
 //! | `leaf_list` | `leaves`: the leaf columns with their levels |
 //! | `widths` | `width`: how many leaf columns a node has |
+//! | `projecting` | `project`: a node without the leaves that aren't read |
 //! | `fitting` | `fit`: the cell of a value that fits; `tree_of`: the value that a cell stands for |
 //! | `laws` | what fits comes back, written kinds read back, nodes and projections have leaves |
 #![tactic(auto)]
@@ -22,6 +23,7 @@ mod laws;
 mod leaf_list;
 mod masks;
 mod nodes;
+mod projecting;
 mod records;
 mod widths;
 
@@ -34,5 +36,6 @@ pub use laws::{
 pub use leaf_list::{LeafList, leaves};
 pub use masks::Mask;
 pub use nodes::{Column, FieldList, Node, Slot, Typed};
+pub use projecting::project;
 pub use records::{Part, Record, RecordList, RowList, RowRecord};
 pub use widths::{slot_width, typed_width, width};
