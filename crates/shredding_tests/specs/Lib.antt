@@ -1,0 +1,2 @@
+-- the column of a schema
+pub mod Texts
