@@ -4,7 +4,7 @@ ghost use Rattle.std.specs.Prelude.{◌≡◌, IfOk};
 ghost use Rattle.shred_schema.specs.Views.{group_of};
 ghost use Rattle.shredding_tests.specs.Texts.{texts};
 
-use shred_schema::{Column, FieldList, Node, Slot, Typed, leaves, width};
+use shred_schema::{Column, FieldList, Node, Slot, Typed, leaves, project, width};
 use sqlite_items::Boxed;
 use std::alloc::Global;
 use std::process::Abort;
@@ -51,5 +51,21 @@ fn a_list_of_texts_has_five_leaves(rt: HostRuntime) -> Result<(), Fail> {
     assert!(&rt; has_levels(leaves.at(3), 1, 5));
     assert!(&rt; has_levels(leaves.at(4), 1, 5));
     assert!(&rt; leaves.at(4).prim == Prim::Text);
+    Ok(())
+}
+
+// Of the five leaves the text of an element alone is read.
+#[test]
+fn a_projection_has_the_leaves_that_are_read(rt: HostRuntime) -> Result<(), Fail> {
+    let column = column(rt.alloc())?;
+    let kept = project(
+        rt.alloc(),
+        &column.node,
+        1,
+        &[false, false, false, false, true],
+    )?;
+    assert!(&rt; matches!(kept.value, Slot::Absent));
+    assert!(&rt; matches!(kept.typed, Typed::Fields(_)));
+    assert!(&rt; width(&kept) == 1);
     Ok(())
 }
