@@ -1,6 +1,6 @@
 //! How lists and structs are written.
 
-ghost use Rattle.std.specs.Prelude.{◌≡◌, ◌≤◌, ◌<◌, ◌^◌, ◌++◌, ℕ, length, OnOk, OnErr};
+ghost use Rattle.std.specs.Prelude.{◌≡◌, ◌≤◌, ◌++◌, ℕ, OnOk, OnErr};
 ghost use Rattle.std.specs.List.{All, flat_map};
 ghost use Rattle.std.proofs.Common.{refl};
 ghost use Rattle.vs_bytes.specs.Outcome.{Grows};
@@ -21,6 +21,9 @@ pub trait ElementCode: Code {
     fn element_kind() -> u8
         ensures own { result ≡ element_kind }
         ensures most { result ≤ 15 };
+
+    // Each element is of this type.
+    ghost alike: { (x : Self.Of) → kind_of (Self.tree x) ≡ element_kind };
 }
 
 impl ElementCode for Int32 {
@@ -29,6 +32,8 @@ impl ElementCode for Int32 {
     fn element_kind() -> u8 {
         5
     }
+
+    ghost alike = { λ x. refl };
 }
 
 impl ElementCode for Binary {
@@ -37,9 +42,12 @@ impl ElementCode for Binary {
     fn element_kind() -> u8 {
         8
     }
+
+    ghost alike = { λ x. refl };
 }
 
-/// How a struct is written: its fields, by their ids, which rise.
+/// How a struct is written: its fields, by their ids, which rise. `fits` says which structs have bytes: a list has
+/// fewer than 2^32 elements, and a count is below 2^63.
 pub trait StructCode {
     type Of: Drop;
 
@@ -78,6 +86,8 @@ impl<C: StructCode> ElementCode for StructOf<C> {
     fn element_kind() -> u8 {
         12
     }
+
+    ghost alike = { λ x. refl };
 }
 
 #[tactic(auto, using(vs_bytes::proofs::Growing::grows_on))]

@@ -1,6 +1,6 @@
 //! The structs of a column chunk (parquet.thrift, ColumnChunk, ColumnMetaData, Statistics), read.
 //!
-//! The fields that parquet.thrift has beside these are passed over.
+//! The fields that parquet.thrift has beside these are passed over, and never written.
 
 ghost use Rattle.std.specs.Prelude.{◌≡◌, Option};
 ghost use Rattle.vs_bytes.specs.Outcome.{Makes};
@@ -89,7 +89,7 @@ pub struct StatsSlots {
     min_value: Slot<Bytes>,
 }
 
-/// How Statistics is read.
+/// How Statistics is read, and written.
 pub struct StatsDraft;
 
 impl Draft for StatsDraft {
@@ -157,7 +157,7 @@ pub struct ColumnSlots {
     statistics: Slot<Stats>,
 }
 
-/// How ColumnMetaData is read.
+/// How ColumnMetaData is read, and written.
 pub struct ColumnDraft;
 
 impl Draft for ColumnDraft {
@@ -236,7 +236,7 @@ pub struct ChunkSlots {
     meta_data: Slot<ColumnMeta>,
 }
 
-/// How ColumnChunk is read.
+/// How ColumnChunk is read, and written.
 pub struct ChunkDraft;
 
 impl Draft for ChunkDraft {

@@ -1,8 +1,10 @@
-//! Structs in the Thrift compact protocol that hold lists and bytes of their own, read in one pass; and the structs of
-//! a column chunk in parquet.thrift.
+//! Structs in the Thrift compact protocol that hold lists and bytes of their own, read in one pass, and written; and
+//! the structs of a column chunk in parquet.thrift.
 //!
 //! A struct is read into the slots of its known fields, by a table that its `Draft` states. What a field holds is an
 //! `Entry`. Nothing is allocated but what is read, and nothing by a size that the bytes only claim.
+//!
+//! A struct is written by its `StructCode`, which states its fields. What is written reads back (`laws`).
 //!
 //! | Module | What it holds |
 //! |---|---|
