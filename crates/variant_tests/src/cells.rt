@@ -113,6 +113,39 @@ fn metadata_violates_its_rules_in_order(rt: HostRuntime) -> Result<(), Fail> {
     Ok(())
 }
 
+// Two rules are violated, and the first is answered. Of metadata: the version and the size; a first offset that isn't
+// 0, or offsets that fall, and a last offset past the end; UTF-8 and the order of names. Of values: a last offset past
+// the end and an unknown id; an unknown id, or names that fall, and an item past the last offset; a value and the id
+// of the field after it.
+const TWO_RULES: &str = "12 | 00 | MetaVersion
+11 01 01 09 61 | 00 | MetaOffsets
+11 02 00 09 08 61 | 00 | MetaOffsets
+11 02 00 01 02 ff 61 | 00 | MetaUtf8
+11 00 00 | 02 01 00 00 02 00 | ValueShort
+11 00 00 | 02 01 00 02 01 00 | FieldId
+11 02 00 01 02 61 62 | 02 02 01 00 00 09 01 00 | FieldOrder
+11 02 00 01 02 61 62 | 02 02 01 00 00 01 02 fc 00 | TypeId
+11 01 00 01 61 | 02 02 00 01 00 01 02 fc 00 | TypeId";
+
+#[test]
+fn the_first_of_two_rules_is_answered(rt: HostRuntime) -> Result<(), Fail> {
+    check_rows(rt.alloc(), TWO_RULES)?;
+    Ok(())
+}
+
+// The name `a` with offsets of 2, 3 and 4 bytes, a name of two bytes, and an empty name before another.
+const NAMES: &str = "51 01 00 00 00 01 00 61 | 02 01 00 00 01 00 | {\"a\":null}
+91 01 00 00 00 00 00 01 00 00 61 | 02 01 00 00 01 00 | {\"a\":null}
+d1 01 00 00 00 00 00 00 00 01 00 00 00 61 | 02 01 00 00 01 00 | {\"a\":null}
+11 01 00 02 c3 a9 | 02 01 00 00 01 00 | {\"\u{e9}\":null}
+11 02 00 00 01 61 | 02 02 00 01 00 01 02 00 04 | {\"\":null,\"a\":true}";
+
+#[test]
+fn names_with_offsets_of_each_width(rt: HostRuntime) -> Result<(), Fail> {
+    check_rows(rt.alloc(), NAMES)?;
+    Ok(())
+}
+
 // Constants, integers of each width, decimals of each width and their rules, texts of both kinds, kinds that
 // aren't read.
 const PRIMITIVES: &str = "11 00 00 |  | ValueShort
@@ -129,7 +162,10 @@ const PRIMITIVES: &str = "11 00 00 |  | ValueShort
 11 00 00 | 20 01 0f 00 00 00 | 1.5
 11 00 00 | 24 02 96 00 00 00 00 00 00 00 | 1.5
 11 00 00 | 28 00 ff ff ff ff 3f 22 8a 09 7a c4 86 5a a8 4c 3b 4b | 99999999999999999999999999999999999999
+11 00 00 | 28 00 01 00 00 00 c0 dd 75 f6 85 3b 79 a5 57 b3 c4 b4 | -99999999999999999999999999999999999999
 11 00 00 | 28 00 00 00 00 00 40 22 8a 09 7a c4 86 5a a8 4c 3b 4b | DecimalDigits
+11 00 00 | 28 00 00 00 00 00 c0 dd 75 f6 85 3b 79 a5 57 b3 c4 b4 | DecimalDigits
+11 00 00 | 20 26 01 00 00 00 | 0.00000000000000000000000000000000000001
 11 00 00 | 28 27 00 00 00 00 40 22 8a 09 7a c4 86 5a a8 4c 3b 4b | DecimalScale
 11 00 00 | 40 01 00 00 | ValueShort
 11 00 00 | 40 01 00 00 00 | ValueShort
@@ -145,6 +181,8 @@ const PRIMITIVES: &str = "11 00 00 |  | ValueShort
 11 00 00 | 34 | KindNotRead
 11 00 00 | 3c | KindNotRead
 11 00 00 | 44 | KindNotRead
+11 00 00 | 48 | KindNotRead
+11 00 00 | 4c | KindNotRead
 11 00 00 | 50 | KindNotRead
 11 00 00 | 54 | TypeId
 11 00 00 | fc | TypeId";
@@ -200,6 +238,19 @@ fn objects_and_their_rules(rt: HostRuntime) -> Result<(), Fail> {
     Ok(())
 }
 
+// Offsets of 3 and 4 bytes in an array, of 4 in an object, ids of 4 bytes, and a count of 4 bytes in an object.
+const WIDTHS: &str = "11 00 00 | 0b 01 00 00 00 01 00 00 04 | [true]
+11 00 00 | 0f 01 00 00 00 00 01 00 00 00 04 | [true]
+11 01 00 01 61 | 0e 01 00 00 00 00 00 01 00 00 00 04 | {\"a\":true}
+11 01 00 01 61 | 32 01 00 00 00 00 00 01 04 | {\"a\":true}
+11 01 00 01 61 | 42 01 00 00 00 00 00 01 04 | {\"a\":true}";
+
+#[test]
+fn numbers_of_each_width(rt: HostRuntime) -> Result<(), Fail> {
+    check_rows(rt.alloc(), WIDTHS)?;
+    Ok(())
+}
+
 // Arrays in one another, the innermost without elements: each but that one has 4 bytes before its element.
 fn nested(alloc: Global, depth: u8) -> Result<Vec<u8>, NoMemory> {
     let mut bytes = Vec::new(alloc);
@@ -229,6 +280,7 @@ fn arrays_nest_64_deep_and_no_deeper(rt: HostRuntime) -> Result<(), Fail> {
     let deeper = nested(rt.alloc(), 65)?;
     assert!(&rt; violation(deeper.as_slice(), 0) == Some(Rule::ValueTooDeep));
     assert!(&rt; violation(b"\x03\x00\x00", 64) == Some(Rule::ValueTooDeep));
+    assert!(&rt; violation(b"\x03", 64) == Some(Rule::ValueTooDeep));
     assert!(&rt; violation(b"\x00", 64).is_none());
     Ok(())
 }
