@@ -1,3 +1,5 @@
+-- how many entries a record has
+pub mod Counted
 -- the leaves of a part
 pub mod OwnLeaves
 -- the entries of some documents

@@ -1,19 +1,15 @@
 -- The leaves of a part: it gives no entries to any other leaf.
-use Rattle.std.proofs.Common.{◌≡◌, ◌∙◌, refl, sym, ap, subst, ℕ, ◌+◌, ◌<◌, ◌≤◌, ◌==◌, ◌⊎◌, Bool, true, false, cond, List, [], ◌∷◌, ◌++◌, Option, Some, None, arith, inl, inr, eq-eqb}
-use Rattle.std.specs.List.{AllByRecursion, flat_map}
+use Rattle.std.proofs.Common.{◌≡◌, ◌∙◌, refl, sym, ap, ℕ, ◌+◌, ◌==◌, Bool, true, false, List, [], ◌∷◌, ◌++◌, Option}
+use Rattle.std.specs.List.{flat_map}
 use Rattle.std.proofs.lemmas.List.{append-nil}
-use Rattle.std.proofs.lemmas.Bool.{both_ways}
-use Rattle.std.proofs.lemmas.Bool.Decides.{nat_tests}
-use Rattle.vs_bytes.specs.declared.leaf_columns.Cell.{Cell}
 use Rattle.vs_bytes.specs.declared.leaf_columns.Entry.{Entry}
 use Rattle.shred_schema.specs.declared.nodes.Slot.{Slot}
 use Rattle.shred_schema.specs.declared.nodes.Slot.TheVariants.{Absent, Required, Optional}
 use Rattle.shred_schema.specs.Groups.{Group, group, Kind, free, scalar, object_of, list_of, Groups, no_groups, field, slot_width, width, kind_width, groups_width}
 use Rattle.shred_schema.specs.Ranges.{is_among}
-use Rattle.shred_schema.specs.Recs.{Rec, rec, RecPart, empty, cell, fields, items, Recs, no_recs, recs, recs_in, recs_from, EachRec}
-use Rattle.shred_schema.specs.Shapes.{Stands, IsOf, PartIsOf, FieldsAreOf}
-use Rattle.shred_schema.proofs.LeafRanges.{among_one, among_none, left_not_right, right_not_left, out_left, out_right}
-use Rattle.level_striping.specs.Entries.{in_leaf, null_at, cell_at, value_entries, cell_entries, item_entries, entries, part_entries, fields_entries}
+use Rattle.shred_schema.specs.Recs.{Rec, rec, RecPart, empty, cell, fields, items, Recs, no_recs, recs, recs_in, recs_from}
+use Rattle.shred_schema.proofs.LeafRanges.{among_one, left_not_right, right_not_left, out_left, out_right}
+use Rattle.level_striping.specs.Entries.{in_leaf, null_at, value_entries, cell_entries, item_entries, entries, part_entries, fields_entries}
 
 -- ---- lists
 

@@ -1,21 +1,21 @@
 -- Walks over fields, items and rows: what is left after one more of them, and entries put after others.
-use Rattle.std.proofs.Common.{◌≡◌, ◌∙◌, refl, sym, ap, length-drop, ap₂, ℕ, zero, suc, ◌+◌, ◌-◌, ◌<◌, ◌≤◌, ◌==◌, max, ◌||◌, Bool, true, false, cond, List, [], ◌∷◌, ◌++◌, length, map, get_or, drop, append_assoc, arith, rules}
-use Rattle.std.specs.List.{AllByRecursion, flat_map}
+use Rattle.std.proofs.Common.{◌≡◌, ◌∙◌, refl, sym, ap, length-drop, ℕ, zero, suc, ◌+◌, ◌-◌, ◌<◌, ◌≤◌, ◌==◌, ◌||◌, Bool, true, false, List, [], ◌∷◌, ◌++◌, length, map, get_or, drop, append_assoc, arith, rules}
+use Rattle.std.specs.List.{flat_map}
 use Rattle.std.proofs.Math.Seq.{drop-nil}
 use Rattle.std.proofs.lemmas.Bool.Decides.{nat_tests}
 use Rattle.std.proofs.lemmas.List.{append-nil}
 use Rattle.vs_bytes.specs.declared.leaf_columns.Entry.{Entry}
-use Rattle.shred_schema.specs.Groups.{Group, Groups, no_groups, field, list_of, groups_from, width, groups_width, height, groups_height}
+use Rattle.shred_schema.specs.Groups.{Group, list_of, groups_from, width, groups_width, height, groups_height}
 use Rattle.shred_schema.specs.Ranges.{is_among}
-use Rattle.shred_schema.specs.Recs.{Rec, Recs, no_recs, recs, items, recs_from, recs_in, EachRec, RowRec}
-use Rattle.shred_schema.specs.Shapes.{IsOf, FieldsAreOf, RowIsOf}
-use Rattle.shred_schema.specs.Views.{group_of, groups_of, named, rec_of, part_of, row_rec_of}
-use Rattle.shred_schema.specs.declared.nodes.FieldList.{FieldList}
+use Rattle.shred_schema.specs.Recs.{Rec, Recs, no_recs, recs, items, recs_from}
+use Rattle.shred_schema.specs.Shapes.{IsOf, FieldsAreOf}
+use Rattle.shred_schema.specs.Views.{group_of, named, rec_of, part_of}
 use Rattle.shred_schema.specs.declared.nodes.Node.{Node}
 use Rattle.shred_schema.specs.declared.records.Part.{the_lemmas}
 use Rattle.shred_schema.specs.declared.records.Part.TheVariants as part
 use Rattle.shred_schema.specs.declared.records.Record.{Record}
 use Rattle.shred_schema.proofs.Viewed.{fields_at, fields_end, recs_at}
+use Rattle.level_striping.specs.Counts.{entry_count, fields_count}
 use Rattle.level_striping.specs.Entries.{in_leaf, null_at, entries, part_entries, fields_entries}
 use Rattle.level_striping.specs.Gains.{Gains}
 use Rattle.level_striping.proofs.OwnLeaves.{in_from}
@@ -136,3 +136,11 @@ pub items_done : (g : Rec → List Entry) (xs : List Record) (k : ℕ) → lengt
 items_done g [] k h = rw (drop-nil k) refl
 items_done g (x ∷ xs) zero h = absurd (omega arith)
 items_done g (x ∷ xs) (suc k) h = items_done g xs k (omega arith)
+
+-- ---- counts
+
+pub count_next : (fs : List (List ℕ × Node)) (xs : List Record) (k : ℕ) (d : List ℕ × Node) (e : Record) → k < length fs → k < length xs → fields_count (groups_from (map named (drop k fs))) (recs_from (map rec_of (drop k xs))) ≡ entry_count (group_of (get_or fs k d).1) (rec_of (get_or xs k e)) + fields_count (groups_from (map named (drop (k + 1) fs))) (recs_from (map rec_of (drop (k + 1) xs)))
+count_next fs xs k d e h i = rw (fields_at fs k d d h, recs_at xs k e i) refl
+
+pub count_done : (fs : List (List ℕ × Node)) (k : ℕ) (xs : Recs) → length fs ≤ k → fields_count (groups_from (map named (drop k fs))) xs ≡ 0
+count_done fs k xs h = rw (fields_end fs k h) refl

@@ -1,16 +1,16 @@
 -- The entries of a record in each leaf (the parquet-format README, "Nested Encoding"). A group's leaves are numbered
 -- from its first leaf k on, and j is the leaf that is asked for. Each part gives entries to its own leaves alone, so
 -- the entries of a record in leaf j are the sum over all its parts.
-use Rattle.std.specs.Prelude.{ℕ, ◌+◌, ◌==◌, List, [], ◌∷◌, ◌++◌, Bool, true, false, cond, Option, Some, None}
+use Rattle.std.specs.Prelude.{ℕ, ◌+◌, ◌==◌, List, [], ◌∷◌, ◌++◌, Bool, cond, Option, Some, None}
 use Rattle.std.specs.List.{flat_map}
 use Rattle.vs_bytes.specs.declared.leaf_columns.Cell.{Cell}
 use Rattle.vs_bytes.specs.declared.leaf_columns.Cell.TheVariants as leaf_cell
 use Rattle.vs_bytes.specs.declared.leaf_columns.Entry.{Entry}
 use Rattle.shred_schema.specs.declared.nodes.Slot.{Slot}
 use Rattle.shred_schema.specs.declared.nodes.Slot.TheVariants.{Absent, Required, Optional}
-use Rattle.shred_schema.specs.Groups.{Group, group, Kind, free, scalar, object_of, list_of, Groups, no_groups, field, slot_width, width, groups_width}
+use Rattle.shred_schema.specs.Groups.{Group, group, Kind, free, scalar, object_of, list_of, Groups, field, slot_width, width, groups_width}
 use Rattle.shred_schema.specs.Ranges.{is_among}
-use Rattle.shred_schema.specs.Recs.{Rec, rec, RecPart, empty, cell, fields, items, Recs, no_recs, recs, recs_in, RowRec, absent, present}
+use Rattle.shred_schema.specs.Recs.{Rec, rec, RecPart, empty, cell, fields, items, Recs, recs, recs_in, RowRec, absent, present}
 
 -- entries of some leaves, and none of any other leaf
 abbrev pub in_leaf : Bool → List Entry → List Entry

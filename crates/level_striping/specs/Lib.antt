@@ -1,3 +1,5 @@
+-- how many entries a record has
+pub mod Counts
 -- the entries of records, rows and columns
 pub mod Entries
 -- entries that were put into leaves

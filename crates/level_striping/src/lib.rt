@@ -7,16 +7,17 @@
 //! | Module | What it holds |
 //! |---|---|
 //! | `levels` | `Levels`: where a record stands |
-//! | `widths` | the leaf after a node's leaves |
 //! | `putting` | the entries of one leaf, and entries without value in many |
 //! | `values` | values and absent parts |
 //! | `striping` | `stripe`: the entries of rows in all leaves |
+//! | `counting` | `entries_of_row`: how many entries a row has in all leaves together |
 #![tactic(auto)]
 
+mod counting;
 mod levels;
 mod putting;
 mod striping;
 mod values;
-mod widths;
 
+pub use counting::entries_of_row;
 pub use striping::{Stripes, stripe};

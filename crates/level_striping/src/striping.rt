@@ -3,7 +3,7 @@
 ghost use Rattle.std.specs.Prelude.{◌≡◌, ◌+◌, ◌*◌, ◌^◌, ◌<◌, ◌≤◌, [], ℕ, length, map, slice_index_or, IfOk, OnOk};
 ghost use Rattle.std.specs.List.{AllByRecursion};
 ghost use Rattle.shred_schema.specs.Groups.{width, kind_width, groups_width, height, kind_height, groups_height, list_of};
-ghost use Rattle.shred_schema.specs.Lawful.{max_leaves, max_nesting};
+ghost use Rattle.shred_schema.specs.Lawful.{IsWellFormed, max_leaves, max_nesting};
 ghost use Rattle.shred_schema.specs.Recs.{EachRec, items, recs_from};
 ghost use Rattle.shred_schema.specs.Shapes.{IsOf, PartIsOf, FieldsAreOf, RowIsOf};
 ghost use Rattle.shred_schema.specs.Views.{group_of, kind_of, groups_of, rec_of, part_of, row_rec_of};
@@ -13,8 +13,7 @@ ghost use Rattle.level_striping.specs.Gains.{Gains};
 use crate::levels::Levels;
 use crate::putting::{put_cell, put_nulls};
 use crate::values::{copied_cell, put_absent, put_bytes, put_value};
-use crate::widths::after_node;
-use shred_schema::{Column, FieldList, Node, Part, Record, RowList, RowRecord, Typed};
+use shred_schema::{Column, FieldList, Node, Part, Record, RowList, RowRecord, Typed, width};
 use std::alloc::Global;
 use vs_bytes::{EntryList, NoMemory, Sequence};
 
@@ -25,14 +24,14 @@ pub type Stripes = Sequence<EntryList>;
 /// metadata, the node's leaves follow.
 ///
 /// Each row has an entry in each leaf at least, and the first has repetition level 0. Only memory can fail.
+#[tactic(auto, using(shred_schema::proofs::NodeFacts::height_most))]
 pub fn stripe(alloc: Global, column: &Column, rows: &RowList) -> Result<Stripes, NoMemory>
     requires of { AllByRecursion (RowIsOf column.now.optional (group_of column.now.node)) (map row_rec_of rows.now) }
-    requires deep { height (group_of column.now.node) ≤ max_nesting + 1 }
-    requires few { 1 + width (group_of column.now.node) ≤ max_leaves }
+    requires column { IsWellFormed (group_of column.now.node) }
     ensures leaves { IfOk result (λ s. length s ≡ 1 + width (group_of column.now.node)) }
     ensures stripes { IfOk result (λ s. (j : ℕ) → slice_index_or s j [] ≡ stripes column.now.optional (group_of column.now.node) (map row_rec_of rows.now) j) }
 {
-    let mut leaves = empty_leaves(alloc, after_node(&column.node, 1))?;
+    let mut leaves = empty_leaves(alloc, 1 + width(&column.node))?;
     let records = rows.as_slice();
     for row in records {
         put_row(alloc, &mut leaves, column, row)?;
@@ -61,13 +60,13 @@ fn put_row(
 ) -> Result<(), NoMemory>
     requires of { RowIsOf column.now.optional (group_of column.now.node) (row_rec_of row.now) }
     requires inside { 1 + width (group_of column.now.node) ≤ length leaves.old }
-    requires few { 1 + width (group_of column.now.node) ≤ max_leaves }
+    requires short { length leaves.old ≤ max_leaves }
     requires deep { height (group_of column.now.node) ≤ max_nesting + 1 }
     ensures { OnOk result (Gains leaves.old leaves.new (row_entries column.now.optional (group_of column.now.node) 0 (row_rec_of row.now))) }
 {
     match row {
         RowRecord::Absent => {
-            let end = after_node(&column.node, 1);
+            let end = 1 + width(&column.node);
             put_nulls(
                 leaves,
                 0,
@@ -112,6 +111,7 @@ fn put_record(
 ) -> Result<usize, NoMemory>
     requires of { IsOf (group_of node.now) (rec_of record_in.now) }
     requires inside { leaf + width (group_of node.now) ≤ length leaves.old }
+    requires short { length leaves.old ≤ max_leaves }
     requires lists { levels.lists + height (group_of node.now) < 2 ^ 16 }
     requires level { levels.def + 2 * height (group_of node.now) < 2 ^ 16 }
     ensures next { IfOk result (λ next. next ≡ leaf + width (group_of node.now)) }
@@ -136,6 +136,7 @@ fn put_part(
 ) -> Result<usize, NoMemory>
     requires of { PartIsOf (kind_of typed.now) (part_of part.now) }
     requires inside { leaf + kind_width (kind_of typed.now) ≤ length leaves.old }
+    requires short { length leaves.old ≤ max_leaves }
     requires lists { levels.lists + kind_height (kind_of typed.now) + 1 < 2 ^ 16 }
     requires level { levels.def + 2 * kind_height (kind_of typed.now) + 2 < 2 ^ 16 }
     ensures next { IfOk result (λ next. next ≡ leaf + kind_width (kind_of typed.now)) }
@@ -187,6 +188,7 @@ fn put_fields(
 ) -> Result<usize, NoMemory>
     requires of { FieldsAreOf (groups_of fields.now) (recs_from (map rec_of records.now)) }
     requires inside { leaf + groups_width (groups_of fields.now) ≤ length leaves.old }
+    requires short { length leaves.old ≤ max_leaves }
     requires lists { levels.lists + groups_height (groups_of fields.now) < 2 ^ 16 }
     requires level { levels.def + 2 * groups_height (groups_of fields.now) < 2 ^ 16 }
     ensures next { IfOk result (λ next. next ≡ leaf + groups_width (groups_of fields.now)) }
@@ -212,6 +214,7 @@ fn put_items(
 ) -> Result<usize, NoMemory>
     requires of { EachRec (IsOf (group_of element.now)) (recs_from (map rec_of records.now)) }
     requires inside { leaf + width (group_of element.now) ≤ length leaves.old }
+    requires short { length leaves.old ≤ max_leaves }
     requires lists { levels.lists + height (group_of element.now) + 1 < 2 ^ 16 }
     requires level { levels.def + 2 * height (group_of element.now) + 2 < 2 ^ 16 }
     ensures next { IfOk result (λ next. next ≡ leaf + width (group_of element.now)) }
@@ -219,7 +222,7 @@ fn put_items(
 {
     match records.split_first() {
         None => {
-            let next = after_node(element, leaf);
+            let next = leaf + width(element);
             put_nulls(leaves, leaf, next, levels.deeper())?;
             Ok(next)
         }

@@ -2,6 +2,7 @@
 
 ghost use Rattle.std.specs.Prelude.{◌≡◌, ◌==◌, ◌+◌, ◌^◌, ◌<◌, ◌≤◌, length, IfOk, OnOk};
 ghost use Rattle.shred_schema.specs.Groups.{kind_width, slot_width};
+ghost use Rattle.shred_schema.specs.Lawful.{max_leaves};
 ghost use Rattle.shred_schema.specs.Recs.{empty};
 ghost use Rattle.shred_schema.specs.Views.{kind_of};
 ghost use Rattle.vs_bytes.specs.declared.leaf_columns.Cell.TheVariants as leaf_cell;
@@ -10,8 +11,7 @@ ghost use Rattle.level_striping.specs.Gains.{Gains};
 
 use crate::levels::Levels;
 use crate::putting::{put_cell, put_null, put_nulls};
-use crate::widths::after_typed;
-use shred_schema::{Slot, Typed};
+use shred_schema::{Slot, Typed, typed_width};
 use std::alloc::Global;
 use vs_bytes::{Bytes, Cell, EntryList, NoMemory};
 
@@ -79,11 +79,12 @@ pub(crate) fn put_absent(
     typed: &Typed,
     levels: Levels,
 ) -> Result<usize, NoMemory>
-    requires { leaf + kind_width (kind_of typed.now) ≤ length leaves.old }
+    requires inside { leaf + kind_width (kind_of typed.now) ≤ length leaves.old }
+    requires short { length leaves.old ≤ max_leaves }
     ensures next { IfOk result (λ next. next ≡ leaf + kind_width (kind_of typed.now)) }
     ensures gains { OnOk result (Gains leaves.old leaves.new (part_entries (kind_of typed.now) leaf levels.rep levels.lists levels.def empty)) }
 {
-    let next = after_typed(typed, leaf);
+    let next = leaf + typed_width(typed);
     put_nulls(leaves, leaf, next, levels)?;
     Ok(next)
 }

@@ -1,4 +1,4 @@
-use Rattle.std.proofs.Common.{◌≡◌, ◌+◌, ◌*◌, ◌≤◌, length, map, drop}
+use Rattle.std.proofs.Common.{◌≡◌, ◌+◌, ◌*◌, map, drop}
 use Rattle.std.specs.List.{flat_map}
 use Rattle.shred_schema.specs.Groups.{groups_from, groups_width, height, kind_height, groups_height}
 use Rattle.shred_schema.specs.Recs.{EachRec, recs_from}
