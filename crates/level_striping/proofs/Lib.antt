@@ -1,5 +1,7 @@
 -- how many entries a record has
 pub mod Counted
+-- entries beside the size of a text
+pub mod EntrySizes
 -- the leaves of a part
 pub mod OwnLeaves
 -- the entries of some documents

@@ -4,3 +4,5 @@ pub mod Counts
 pub mod Entries
 -- entries that were put into leaves
 pub mod Gains
+-- entries beside the size of a text
+pub mod Sizes

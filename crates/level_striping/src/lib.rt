@@ -11,13 +11,16 @@
 //! | `values` | values and absent parts |
 //! | `striping` | `stripe`: the entries of rows in all leaves |
 //! | `counting` | `entries_of_row`: how many entries a row has in all leaves together |
+//! | `laws` | how many entries there are beside the texts, the contract of an empty function |
 #![tactic(auto)]
 
 mod counting;
+mod laws;
 mod levels;
 mod putting;
 mod striping;
 mod values;
 
 pub use counting::entries_of_row;
+pub use laws::entries_are_few;
 pub use striping::{Stripes, stripe};
