@@ -1,7 +1,6 @@
 -- A record is read from its entries, as the mask leaves it.
-use Rattle.std.proofs.Common.{◌≡◌, ◌∙◌, refl, sym, ap, subst, ℕ, zero, suc, ◌+◌, ◌<◌, ◌≤◌, ◌==◌, Bool, true, false, not, ◌&&◌, cond, List, [], ◌∷◌, ◌++◌, length, length-append, map, max, Option, Some, None, arith, eq-eqb, inl, inr}
+use Rattle.std.proofs.Common.{◌≡◌, ◌∙◌, refl, sym, ap, subst, ℕ, zero, suc, ◌+◌, ◌<◌, ◌≤◌, ◌==◌, Bool, true, false, not, ◌&&◌, cond, List, [], ◌∷◌, length, length-append, map, max, Option, Some, None, arith, eq-eqb, inl, inr}
 use Rattle.std.specs.List.{AllByRecursion, flat_map}
-use Rattle.std.specs.Option.{option_map}
 use Rattle.std.proofs.lemmas.Bool.Decides.{nat_tests}
 use Rattle.vs_bytes.specs.declared.leaf_columns.Cell.{Cell}
 use Rattle.vs_bytes.specs.declared.leaf_columns.Cell.TheVariants as leaf_cell
@@ -9,16 +8,17 @@ use Rattle.vs_bytes.specs.declared.leaf_columns.Entry.{Entry}
 use Rattle.shred_schema.specs.declared.nodes.Slot.{Slot}
 use Rattle.shred_schema.specs.declared.nodes.Slot.TheVariants.{Absent, Required, Optional}
 use Rattle.shred_schema.specs.Groups.{Group, group, Kind, free, scalar, object_of, list_of, Groups, no_groups, field, slot_width, width, kind_width, groups_width}
-use Rattle.shred_schema.specs.Ranges.{is_among, each_read, none_read}
-use Rattle.shred_schema.specs.Recs.{Rec, rec, RecPart, empty, cell, fields, items, Recs, no_recs, recs, recs_in, recs_from, EachRec}
+use Rattle.shred_schema.specs.Ranges.{is_among, none_read}
+use Rattle.shred_schema.specs.Recs.{Rec, rec, RecPart, empty, cell, fields, items, Recs, no_recs, recs, recs_in, EachRec}
 use Rattle.shred_schema.specs.Shapes.{Stands, IsOf, PartIsOf, FieldsAreOf}
-use Rattle.shred_schema.proofs.LeafRanges.{among_one, among_first, among_rest, among_left, among_right}
+use Rattle.shred_schema.proofs.LeafRanges.{among_one, among_first, among_left, among_right}
 use Rattle.shred_schema.proofs.ReadLeaves.{bool_cases, read_from, none_passes, fails_read, one_read}
-use Rattle.level_striping.specs.Entries.{in_leaf, null_at, cell_at, value_entries, cell_entries, entries, part_entries, fields_entries}
+use Rattle.level_striping.specs.Entries.{in_leaf, null_at, cell_at, value_entries, entries, part_entries, fields_entries}
 use Rattle.record_assembly.specs.Cuts.{is_nil}
-use Rattle.record_assembly.specs.Reading.{has_levels, is_null, only_cell, bytes_read, value_read, cell_read, with_part, with_field, items_read, longest, are_nil, are_null, read, part_read, fields_read}
+use Rattle.record_assembly.specs.Laws.{Have}
+use Rattle.record_assembly.specs.Reading.{has_levels, is_null, only_cell, bytes_read, value_read, items_read, longest, are_nil, are_null, read, part_read, fields_read}
 use Rattle.record_assembly.specs.Shown.{shown, part_shown, fields_shown}
-use Rattle.record_assembly.proofs.Cutting.{Begins, begins_lower, begins_some, begins_long, items_long}
+use Rattle.record_assembly.proofs.Cutting.{Begins, begins_long, items_long}
 use Rattle.level_striping.proofs.OwnLeaves.{in_leaf_true, value_alone, part_alone, field_alone, fields_alone}
 use Rattle.record_assembly.proofs.Leaves.{begins, part_begins, part_level, each_in}
 use Rattle.record_assembly.proofs.ReadItems.{Readable, items_complete}
@@ -80,10 +80,6 @@ value_complete Optional k mask r d es None of has = missing_read (mask k) r d es
 value_complete Optional k mask r d es (Some bytes) of has = there_read (mask k) r d bytes es (λ m. has (among_first k 0) m ∙ here k _)
 
 -- ---- typed parts
-
--- the leaves of a range that are read have the entries that a family gives
-abbrev pub Have : (ℕ → Bool) → ℕ → ℕ → (ℕ → List Entry) → (ℕ → List Entry) → Type 0
-Have mask k count es gives = (j : ℕ) → is_among j k count ≡ true → mask j ≡ true → es j ≡ gives j
 
 pub empty_entries : (t : Kind) (k r m d j : ℕ) → is_among j k (kind_width t) ≡ true → part_entries t k r m d empty j ≡ null_at r d
 empty_entries free k r m d j a = elim (none_in j k a) [ ]

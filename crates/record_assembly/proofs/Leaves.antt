@@ -1,7 +1,6 @@
 -- How the entries of a part begin in each of its leaves: as those of an item.
-use Rattle.std.proofs.Common.{◌≡◌, ◌∙◌, refl, sym, ap, subst, ℕ, ◌+◌, ◌<◌, ◌≤◌, ◌==◌, ◌⊎◌, Bool, true, false, cond, List, [], ◌∷◌, ◌++◌, Option, Some, None, arith, inl, inr, eq-eqb}
-use Rattle.std.specs.List.{AllByRecursion, flat_map}
-use Rattle.std.proofs.lemmas.List.{append-nil}
+use Rattle.std.proofs.Common.{◌≡◌, ◌∙◌, refl, sym, ℕ, ◌+◌, ◌≤◌, ◌==◌, ◌⊎◌, Bool, true, false, List, [], ◌∷◌, Option, Some, None, arith, inl, inr}
+use Rattle.std.specs.List.{AllByRecursion}
 use Rattle.std.proofs.lemmas.Bool.{both_ways}
 use Rattle.std.proofs.lemmas.Bool.Decides.{nat_tests}
 use Rattle.vs_bytes.specs.declared.leaf_columns.Cell.{Cell}
@@ -12,10 +11,10 @@ use Rattle.shred_schema.specs.Groups.{Group, group, Kind, free, scalar, object_o
 use Rattle.shred_schema.specs.Ranges.{is_among}
 use Rattle.shred_schema.specs.Recs.{Rec, rec, RecPart, empty, cell, fields, items, Recs, no_recs, recs, recs_in, recs_from, EachRec}
 use Rattle.shred_schema.specs.Shapes.{Stands, IsOf, PartIsOf, FieldsAreOf}
-use Rattle.shred_schema.proofs.LeafRanges.{among_one, among_none, left_not_right, right_not_left, out_left, out_right}
-use Rattle.level_striping.specs.Entries.{in_leaf, null_at, cell_at, value_entries, cell_entries, item_entries, entries, part_entries, fields_entries}
-use Rattle.level_striping.proofs.OwnLeaves.{in_leaf_true, value_alone, part_alone, field_alone, fields_alone}
-use Rattle.record_assembly.proofs.Cutting.{AllAbove, Begins, begins_one, begins_append, begins_lower, begins_above, flat_above}
+use Rattle.shred_schema.proofs.LeafRanges.{among_one, among_none}
+use Rattle.level_striping.specs.Entries.{in_leaf, null_at, cell_at, value_entries, entries, part_entries, fields_entries}
+use Rattle.level_striping.proofs.OwnLeaves.{value_alone, part_alone, field_alone, fields_alone}
+use Rattle.record_assembly.proofs.Cutting.{Begins, begins_one, begins_append, begins_lower, begins_above, flat_above}
 
 pub each_in : (P : Rec → Type 0) (xs : Recs) → EachRec P xs → AllByRecursion P (recs_in xs)
 each_in P no_recs h = tt

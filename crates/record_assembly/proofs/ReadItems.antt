@@ -1,11 +1,10 @@
 -- Items of any kind, read back from their entries: records of a list, and rows.
-use Rattle.std.proofs.Common.{◌≡◌, ◌∙◌, refl, sym, ap, ℕ, zero, suc, ◌+◌, ◌<◌, ◌≤◌, Bool, true, false, cond, List, [], ◌∷◌, ◌++◌, map, length, Option, Some, None, arith}
+use Rattle.std.proofs.Common.{◌≡◌, ◌∙◌, refl, sym, ap, ℕ, zero, suc, ◌<◌, Bool, true, false, cond, List, [], ◌∷◌, ◌++◌, map, length, Option, Some, None, arith}
 use Rattle.std.specs.List.{AllByRecursion, flat_map}
-use Rattle.std.proofs.lemmas.List.{append-nil}
 use Rattle.vs_bytes.specs.declared.leaf_columns.Entry.{Entry}
 use Rattle.record_assembly.specs.Cuts.{first_item, later_items, is_nil}
 use Rattle.record_assembly.specs.Reading.{with_item, items_read}
-use Rattle.record_assembly.proofs.Cutting.{AllAbove, Begins, StartsLow, begins_low, begins_some, first_is, later_are, items_joined}
+use Rattle.record_assembly.proofs.Cutting.{Begins, StartsLow, begins_low, begins_some, first_is, later_are, items_joined}
 use Rattle.record_assembly.proofs.Found.{Found, FoundItems}
 
 -- what is known of one item: its entries `e` by its repetition level, its reader `f`, what is shown of it, and which

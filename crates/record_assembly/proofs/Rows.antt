@@ -1,7 +1,6 @@
 -- Rows, read back from their entries in all leaves.
-use Rattle.std.proofs.Common.{◌≡◌, ◌∙◌, refl, sym, ap, ap₂, ℕ, suc, ◌+◌, ◌<◌, ◌≤◌, ◌==◌, Bool, true, false, not, cond, List, [], ◌∷◌, ◌++◌, length, length-append, map, Option, Some, None, arith, inl, inr}
-use Rattle.std.specs.List.{AllByRecursion, flat_map}
-use Rattle.std.specs.Option.{option_map}
+use Rattle.std.proofs.Common.{◌≡◌, ◌∙◌, refl, sym, ap, ap₂, ℕ, suc, ◌+◌, ◌<◌, ◌==◌, Bool, true, false, cond, List, [], ◌∷◌, ◌++◌, length, length-append, map, Option, Some, None, arith, inl, inr}
+use Rattle.std.specs.List.{AllByRecursion}
 use Rattle.vs_bytes.specs.declared.leaf_columns.Cell.TheVariants as leaf_cell
 use Rattle.vs_bytes.specs.declared.leaf_columns.Entry.{Entry}
 use Rattle.shred_schema.specs.Groups.{Group, width}
@@ -12,11 +11,12 @@ use Rattle.shred_schema.proofs.LeafRanges.{among_one, among_first, among_left, a
 use Rattle.shred_schema.proofs.ReadLeaves.{read_from, read_at, fails_read, one_read}
 use Rattle.level_striping.specs.Entries.{in_leaf, null_at, cell_at, entries, top_level, row_entries, stripes}
 use Rattle.record_assembly.specs.Cuts.{is_nil}
-use Rattle.record_assembly.specs.Reading.{is_null, bytes_read, items_read, longest, are_nil, are_null, with_meta, meta_read, read, present_read, row_read, rows_read}
+use Rattle.record_assembly.specs.Laws.{Have, LeftOfRows}
+use Rattle.record_assembly.specs.Reading.{is_null, items_read, longest, are_nil, are_null, with_meta, meta_read, read, present_read, row_read, rows_read}
 use Rattle.record_assembly.specs.Shown.{shown, row_shown}
 use Rattle.record_assembly.proofs.Cutting.{Begins, begins_one, begins_lower, begins_long, items_long}
-use Rattle.record_assembly.proofs.Complete.{Have, bytes_is, are_null_from, not_null_from, begins_at, longest_at, here, complete}
-use Rattle.record_assembly.proofs.Found.{Found, FoundItems}
+use Rattle.record_assembly.proofs.Complete.{bytes_is, are_null_from, not_null_from, begins_at, longest_at, here, complete}
+use Rattle.record_assembly.proofs.Found.{Found}
 use Rattle.level_striping.proofs.OwnLeaves.{in_leaf_true, in_leaf_false, nil_left, nil_right, outside}
 use Rattle.record_assembly.proofs.Leaves.{either, begins}
 use Rattle.record_assembly.proofs.ReadItems.{Readable, items_complete, items_sound}
@@ -160,21 +160,14 @@ pub rows_complete : (o : Bool) (n : Group) (mask : ℕ → Bool) (es : ℕ → L
 rows_complete o n mask es [] some all has = rw (all_nil mask 0 (1 + width n) es (λ j l. has j l.0 l.1)) refl
 rows_complete o n mask es (x ∷ xs) some all has = rows_complete_some o n mask es x xs some all.0 all.1 has
 
--- rows that were read, found again
-pub record FoundRows (o : Bool) (n : Group) (mask : ℕ → Bool) (es : ℕ → List Entry) (qs : List RowRec) : Type 0 where
-  pub rows : List RowRec
-  pub all : AllByRecursion (RowIsOf o n) rows
-  pub agree : (j : ℕ) → IsReadIn mask 0 (1 + width n) j → es j ≡ stripes o n rows j
-  pub is : map (row_shown n mask) rows ≡ qs
-
-pub rows_sound : (o : Bool) (n : Group) (mask : ℕ → Bool) (es : ℕ → List Entry) (qs : List RowRec) → rows_read o n mask es ≡ Some qs → FoundRows o n mask es qs
+pub rows_sound : (o : Bool) (n : Group) (mask : ℕ → Bool) (es : ℕ → List Entry) (qs : List RowRec) → rows_read o n mask es ≡ Some qs → LeftOfRows o n mask es qs
 rows_sound o n mask es qs h = by (are_nil mask 0 (1 + width n) es) refl h
   where
     ends : (fs : ℕ → List Entry) → are_nil mask 0 (1 + width n) fs ≡ true → (j : ℕ) → IsReadIn mask 0 (1 + width n) j → fs j ≡ []
     ends fs e j l = nil_sound (fs j) (read_at mask 0 (1 + width n) (λ i. is_nil (fs i)) j e l.0 l.1)
 
-    by : (b : Bool) → are_nil mask 0 (1 + width n) es ≡ b → cond b (Some []) (items_read (row_read o n mask) (are_nil mask 0 (1 + width n)) 0 (suc (longest 0 (1 + width n) es)) 0 es) ≡ Some qs → FoundRows o n mask es qs
-    by true e g = let same : [] ≡ qs = cc in record { rows = []; all = tt; agree = ends es e; is = same }
+    by : (b : Bool) → are_nil mask 0 (1 + width n) es ≡ b → cond b (Some []) (items_read (row_read o n mask) (are_nil mask 0 (1 + width n)) 0 (suc (longest 0 (1 + width n) es)) 0 es) ≡ Some qs → LeftOfRows o n mask es qs
+    by true e g = let same : [] ≡ qs = cc in record { rows = []; of = tt; have = λ j a y. ends es e j (a, y); left = same }
     by false e g =
         let f = items_sound {A = RowRec} {B = RowRec} (λ a x j. row_entries o n a x j) (row_read o n mask) (row_shown n mask) (RowIsOf o n) (IsReadIn mask 0 (1 + width n)) 0 (are_nil mask 0 (1 + width n)) (λ a fs x i. row_sound o n mask a fs x i) ends (suc (longest 0 (1 + width n) es)) 0 es qs g in
-        record { rows = f.head ∷ f.tail; all = (f.of, f.all); agree = f.agree; is = f.is }
+        record { rows = f.head ∷ f.tail; of = (f.of, f.all); have = λ j a y. f.agree j (a, y); left = f.is }

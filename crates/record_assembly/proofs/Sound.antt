@@ -1,6 +1,6 @@
 -- What is read is left of a record that has these entries.
-use Rattle.std.proofs.Common.{◌≡◌, ◌∙◌, refl, sym, ap, ap₂, subst, ℕ, zero, suc, ◌+◌, ◌==◌, Bool, true, false, not, ◌&&◌, cond, List, [], ◌∷◌, ◌++◌, map, Option, Some, None, arith, inl, inr}
-use Rattle.std.specs.List.{AllByRecursion, flat_map}
+use Rattle.std.proofs.Common.{◌≡◌, ◌∙◌, refl, sym, ap, ap₂, subst, ℕ, suc, ◌+◌, ◌==◌, Bool, true, false, not, ◌&&◌, cond, List, [], ◌∷◌, ◌++◌, map, Option, Some, None, arith, inl, inr}
+use Rattle.std.specs.List.{flat_map}
 use Rattle.std.specs.Option.{option_map, option_and_then}
 use Rattle.std.proofs.lemmas.Bool.{both_ways, and_parts, eqb-true}
 use Rattle.std.proofs.lemmas.Bool.Decides.{nat_tests}
@@ -12,12 +12,12 @@ use Rattle.shred_schema.specs.declared.nodes.Slot.{Slot}
 use Rattle.shred_schema.specs.declared.nodes.Slot.TheVariants.{Absent, Required, Optional}
 use Rattle.shred_schema.specs.Cells.{is_of_prim}
 use Rattle.shred_schema.specs.Groups.{Group, group, Kind, free, scalar, object_of, list_of, Groups, no_groups, field, slot_width, width, kind_width, groups_width}
-use Rattle.shred_schema.specs.Ranges.{is_among, each_read, none_read}
-use Rattle.shred_schema.specs.Recs.{Rec, rec, RecPart, empty, cell, fields, items, Recs, no_recs, recs, recs_in, recs_from, EachRec}
+use Rattle.shred_schema.specs.Ranges.{is_among, none_read}
+use Rattle.shred_schema.specs.Recs.{Rec, rec, RecPart, empty, cell, fields, items, Recs, no_recs, recs, recs_from}
 use Rattle.shred_schema.specs.Shapes.{Stands, IsOf, PartIsOf, FieldsAreOf}
 use Rattle.shred_schema.proofs.LeafRanges.{among_one}
-use Rattle.shred_schema.proofs.ReadLeaves.{bool_cases, read_at, none_passes}
-use Rattle.level_striping.specs.Entries.{in_leaf, null_at, cell_at, value_entries, cell_entries, entries, part_entries, fields_entries}
+use Rattle.shred_schema.proofs.ReadLeaves.{read_at, none_passes}
+use Rattle.level_striping.specs.Entries.{in_leaf, null_at, cell_at, value_entries, entries, part_entries, fields_entries}
 use Rattle.record_assembly.specs.Cuts.{is_nil}
 use Rattle.record_assembly.specs.Reading.{has_levels, is_null, only_cell, bytes_in, bytes_read, value_read, cell_read, with_part, with_field, items_read, longest, are_nil, are_null, read, part_read, fields_read}
 use Rattle.record_assembly.specs.Shown.{shown, part_shown, fields_shown}

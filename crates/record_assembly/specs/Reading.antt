@@ -13,7 +13,6 @@ use Rattle.shred_schema.specs.Cells.{is_of_prim}
 use Rattle.shred_schema.specs.Groups.{Group, group, Kind, free, scalar, object_of, list_of, Groups, no_groups, field, slot_width, width, kind_width}
 use Rattle.shred_schema.specs.Ranges.{each_read}
 use Rattle.shred_schema.specs.Recs.{Rec, rec, RecPart, empty, cell, fields, items, Recs, no_recs, recs, recs_from, RowRec, absent, present}
-use Rattle.level_striping.specs.Entries.{top_level}
 use Rattle.record_assembly.specs.Cuts.{first_item, later_items, is_nil}
 
 -- ---- one leaf

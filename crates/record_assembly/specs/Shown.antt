@@ -1,9 +1,9 @@
 -- What a mask leaves of a record: no value where its leaf isn't read, and no typed part where none of its leaves is.
 -- The fields and items of any other typed part keep their places.
-use Rattle.std.specs.Prelude.{ℕ, ◌+◌, List, [], ◌∷◌, map, Bool, cond, Option, None}
-use Rattle.shred_schema.specs.Groups.{Group, group, Kind, free, scalar, object_of, list_of, Groups, no_groups, field, slot_width, width, kind_width}
+use Rattle.std.specs.Prelude.{ℕ, ◌+◌, [], map, Bool, cond, None}
+use Rattle.shred_schema.specs.Groups.{Group, group, Kind, object_of, list_of, Groups, field, slot_width, width, kind_width}
 use Rattle.shred_schema.specs.Ranges.{none_read}
-use Rattle.shred_schema.specs.Recs.{Rec, rec, RecPart, empty, cell, fields, items, Recs, no_recs, recs, recs_in, recs_from, RowRec, absent, present}
+use Rattle.shred_schema.specs.Recs.{Rec, rec, RecPart, empty, fields, items, Recs, recs, recs_in, recs_from, RowRec, absent, present}
 
 -- of a node whose first leaf is k
 abbrev mutual

@@ -1,4 +1,3 @@
-use Rattle.std.proofs.Common.{◌≡◌}
 use Rattle.record_assembly.proofs.Rows.{rows_complete, rows_sound}
 use Rattle.record_assembly.proofs.laws.columns_are_read.Goals as goal
 
@@ -6,4 +5,4 @@ pub returns-clause-comes : goal.returns-clause-comes
 returns-clause-comes c = λ o n mask es rows some of have. rows_complete o n mask es rows some of have
 
 pub returns-clause-only : goal.returns-clause-only
-returns-clause-only c = λ o n mask es qs h. let f = rows_sound o n mask es qs h in record { rows = f.rows; of = f.all; have = λ j a y. f.agree j (a, y); left = f.is }
+returns-clause-only c = λ o n mask es qs h. rows_sound o n mask es qs h

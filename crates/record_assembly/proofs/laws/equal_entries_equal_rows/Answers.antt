@@ -1,4 +1,3 @@
-use Rattle.std.proofs.Common.{◌≡◌}
 use Rattle.record_assembly.proofs.Alike.{same_rows}
 use Rattle.record_assembly.proofs.laws.equal_entries_equal_rows.Goals as goal
 

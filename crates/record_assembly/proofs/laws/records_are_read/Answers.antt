@@ -1,4 +1,3 @@
-use Rattle.std.proofs.Common.{◌≡◌}
 use Rattle.record_assembly.proofs.Complete.{complete}
 use Rattle.record_assembly.proofs.Sound.{sound}
 use Rattle.record_assembly.proofs.laws.records_are_read.Goals as goal

@@ -1,4 +1,3 @@
-use Rattle.std.proofs.Common.{◌≡◌}
 use Rattle.record_assembly.proofs.Rows.{row_complete, row_sound}
 use Rattle.record_assembly.proofs.laws.rows_are_read.Goals as goal
 
