@@ -4,10 +4,11 @@ use Rattle.std.specs.List.{AllByRecursion}
 use Rattle.shred_schema.specs.declared.nodes.Slot.{Slot}
 use Rattle.shred_schema.specs.declared.nodes.Slot.TheVariants.{Absent, Required, Optional}
 use Rattle.shred_schema.specs.Groups.{Group, group, Kind, free, scalar, object_of, list_of, Groups, no_groups, field, slot_width, width, kind_width, groups_width}
-use Rattle.shred_schema.specs.Lawful.{HasLeaves, KindHasLeaves, GroupsHaveLeaves}
+use Rattle.shred_schema.specs.Lawful.{HasEither, MayHold, HasField, EachIn, EachField, AreNodes, HasLeaves, KindHasLeaves, GroupsHaveLeaves}
 use Rattle.shred_schema.specs.Ranges.{is_among, every, none_read}
 use Rattle.shred_schema.specs.Recs.{Rec, rec, RecPart, empty, cell, fields, items, Recs, no_recs, recs, recs_in, recs_from, EachRec, RowRec, absent, present}
 use Rattle.shred_schema.specs.Shapes.{Stands, IsOf, PartIsOf, FieldsAreOf, RowIsOf}
+use Rattle.shred_schema.proofs.NodeFacts.{nodes_width}
 use Rattle.shred_schema.proofs.ReadLeaves.{any_of_every}
 use Rattle.level_striping.specs.Entries.{stripes}
 use Rattle.record_assembly.specs.Reading.{rows_read}
@@ -79,3 +80,23 @@ same_rows o n xs ys h of of_other same =
     let other : rows_read o n every (stripes o n xs) ≡ Some (map (row_shown n every) ys) = rows_complete o n every (stripes o n xs) ys some of_other (λ j a y. same j a) in
     let shown_same : map (row_shown n every) xs ≡ map (row_shown n every) ys = cc in
     sym (rows_whole o n xs h of) ∙ (shown_same ∙ rows_whole o n ys h of_other)
+
+-- ---- the nodes of a column
+
+some_leaf : (gs : Groups) → HasField gs → EachField HasEither MayHold gs → 1 ≤ groups_width gs
+some_leaf no_groups some h = absurd some
+some_leaf (field name n gs) some h = omega (arith, nodes_width n h.0)
+
+mutual
+  pub nodes_have_leaves : (n : Group) → AreNodes n → HasLeaves n
+  nodes_have_leaves (group s t) h = kind_has_leaves t h.1
+
+  kind_has_leaves : (t : Kind) → EachIn HasEither MayHold t → KindHasLeaves t
+  kind_has_leaves free h = tt
+  kind_has_leaves (scalar q) h = tt
+  kind_has_leaves (object_of gs) h = (some_leaf gs h.0.some h.1, groups_have_leaves gs h.1)
+  kind_has_leaves (list_of n) h = (nodes_width n h, nodes_have_leaves n h)
+
+  groups_have_leaves : (gs : Groups) → EachField HasEither MayHold gs → GroupsHaveLeaves gs
+  groups_have_leaves no_groups h = tt
+  groups_have_leaves (field name n gs) h = (nodes_have_leaves n h.0, groups_have_leaves gs h.1)

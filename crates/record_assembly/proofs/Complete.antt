@@ -180,7 +180,7 @@ mutual
       let typed = typed_complete t (k + slot_width s) mask r m d es p of.1 part_has (λ level some. part_complete t (k + slot_width s) mask r m d es p of.1 level some part_has) in
       rw (value, typed) refl
 
-  part_complete : (t : Kind) (k : ℕ) (mask : ℕ → Bool) (r m d : ℕ) (es : ℕ → List Entry) (p : RecPart) → PartIsOf t p → 1 ≤ part_level p → none_read mask k (kind_width t) ≡ false → Have mask k (kind_width t) es (part_entries t k r m d p) → part_read t k mask r m d es ≡ Some (part_shown t k mask p)
+  pub part_complete : (t : Kind) (k : ℕ) (mask : ℕ → Bool) (r m d : ℕ) (es : ℕ → List Entry) (p : RecPart) → PartIsOf t p → 1 ≤ part_level p → none_read mask k (kind_width t) ≡ false → Have mask k (kind_width t) es (part_entries t k r m d p) → part_read t k mask r m d es ≡ Some (part_shown t k mask p)
   part_complete free k mask r m d es empty of level some has = absurd (omega arith)
   part_complete free k mask r m d es (cell c) of level some has = absurd of
   part_complete free k mask r m d es (fields xs) of level some has = absurd of
@@ -207,7 +207,7 @@ mutual
       let whole = list_complete n k mask r m d es x xs (λ a y fs o h. complete n k mask a (m + 1) (d + 2) fs y o h) some of.0 of.1 has in
       rw (not_null_from mask k (width n) r (d + 1) m (d + 2) es some (omega arith) deeper, whole) refl
 
-  fields_complete : (gs : Groups) (k : ℕ) (mask : ℕ → Bool) (r m d : ℕ) (es : ℕ → List Entry) (xs : Recs) → FieldsAreOf gs xs → Have mask k (groups_width gs) es (fields_entries gs k r m d xs) → fields_read gs k mask r m d es ≡ Some (fields_shown gs k mask xs)
+  pub fields_complete : (gs : Groups) (k : ℕ) (mask : ℕ → Bool) (r m d : ℕ) (es : ℕ → List Entry) (xs : Recs) → FieldsAreOf gs xs → Have mask k (groups_width gs) es (fields_entries gs k r m d xs) → fields_read gs k mask r m d es ≡ Some (fields_shown gs k mask xs)
   fields_complete no_groups k mask r m d es no_recs of has = refl
   fields_complete no_groups k mask r m d es (recs x xs) of has = absurd of
   fields_complete (field name n gs) k mask r m d es no_recs of has = absurd of

@@ -4,7 +4,7 @@ ghost use Rattle.std.specs.Prelude.{◌≡◌, ◌+◌, ℕ, Bool, List, map, tr
 ghost use Rattle.std.specs.List.{AllByRecursion};
 ghost use Rattle.vs_bytes.specs.declared.leaf_columns.Entry.{Entry};
 ghost use Rattle.shred_schema.specs.Groups.{Group, width};
-ghost use Rattle.shred_schema.specs.Lawful.{HasLeaves};
+ghost use Rattle.shred_schema.specs.Lawful.{HasLeaves, IsWellFormed};
 ghost use Rattle.shred_schema.specs.Ranges.{is_among, none_read};
 ghost use Rattle.shred_schema.specs.Recs.{Rec, RowRec};
 ghost use Rattle.shred_schema.specs.Shapes.{IsOf, RowIsOf};
@@ -33,7 +33,9 @@ pub fn columns_are_read()
     ensures only { (optional : Bool) (n : Group) (mask : ℕ → Bool) (es : ℕ → List Entry) (qs : List RowRec) → rows_read optional n mask es ≡ Some qs → LeftOfRows optional n mask es qs }
 {}
 
-/// Rows of one column with equal stripes in all leaves are equal.
+/// Rows of one column with equal stripes in all leaves are equal. So are rows under any node that has a leaf in each
+/// object's fields and in each list's elements.
 pub fn equal_entries_equal_rows()
-    ensures { (optional : Bool) (n : Group) (rows others : List RowRec) → HasLeaves n → AllByRecursion (RowIsOf optional n) rows → AllByRecursion (RowIsOf optional n) others → ((j : ℕ) → is_among j 0 (1 + width n) ≡ true → stripes optional n rows j ≡ stripes optional n others j) → rows ≡ others }
+    ensures column { (optional : Bool) (n : Group) (rows others : List RowRec) → IsWellFormed n → AllByRecursion (RowIsOf optional n) rows → AllByRecursion (RowIsOf optional n) others → ((j : ℕ) → is_among j 0 (1 + width n) ≡ true → stripes optional n rows j ≡ stripes optional n others j) → rows ≡ others }
+    ensures leaves { (optional : Bool) (n : Group) (rows others : List RowRec) → HasLeaves n → AllByRecursion (RowIsOf optional n) rows → AllByRecursion (RowIsOf optional n) others → ((j : ℕ) → is_among j 0 (1 + width n) ≡ true → stripes optional n rows j ≡ stripes optional n others j) → rows ≡ others }
 {}
