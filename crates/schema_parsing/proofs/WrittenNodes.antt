@@ -16,7 +16,7 @@ has_field (first_field f gap fs) = tt
 mutual
   written : (w : SchemaSyntax) (after : List ℕ) → IsWell w after → AllWritten (schema_of w)
   written (worded word kind) after h = (tt, ((word_for word).here kind h.0).written)
-  written (scaled p s gap) after h = (tt, h.3)
+  written (scaled p s gap) after h = (tt, record { some = h.3.0; most = h.3.1; places = h.3.2 })
   written (braced gap fs) after h =
       (tt, (record { some = has_field fs; differ = ap repeats (names_same (fields_in fs)) ∙ h.2 }, fields_written fs after h.1))
   written (bracketed before w gap) after h = (tt, written w (gap ++ 93 ∷ after) h.1)
