@@ -1,0 +1,2 @@
+-- a column of texts in a list
+pub mod Texts
