@@ -130,7 +130,7 @@ list_ends bytes = ends_then (byte bytes) _ bytes (byte_ends bytes) (λ b.
 
 pub types_ends : (size : ℕ) (bytes : List ℕ) → Ends (map_types size bytes) bytes
 unfolding map_types
-types_ends size bytes = ends_if (size == 0) _ _ bytes (all_tail bytes) (ends_then (byte bytes) _ bytes (byte_ends bytes) (λ b. all_tail b.1))
+types_ends size bytes = ends_if (size == 0) _ _ bytes (all_tail bytes) (ends_then (byte bytes) _ bytes (byte_ends bytes) (λ b. ends_within _ (Some (b.0 / 16, b.0 % 16)) b.1 b.1 (all_tail b.1)))
 
 pub map_ends : (bytes : List ℕ) → Ends (map_size bytes) bytes
 unfolding map_size

@@ -40,7 +40,9 @@ list bytes = byte bytes >>= λ b. list_size (b.0 / 16) b.1 >>= λ n.
 
 -- the header of a map: key type, value type and size. An empty map has no types
 unfoldable pub map_types : ℕ → List ℕ → Read (Option (ℕ × ℕ))
-map_types size bytes = if size == 0 then Ok (None, bytes) else byte bytes >>= λ b. Ok (Some (b.0 / 16, b.0 % 16), b.1)
+map_types size bytes =
+    if size == 0 then Ok (None, bytes)
+    else byte bytes >>= λ b. within (is_type (b.0 / 16) && is_type (b.0 % 16)) (Some (b.0 / 16, b.0 % 16), b.1)
 
 unfoldable pub map_size : List ℕ → Read ℕ
 map_size bytes = varint bytes >>= λ n. within (nat_lt n.0 size_bound) n

@@ -91,5 +91,9 @@ pub(crate) fn map_types_at(size: u32, bytes: &[u8]) -> Result<(Option<(u8, u8)>,
         return Ok((None, bytes));
     }
     let (kinds, rest) = byte_at(bytes)?;
-    Ok((Some((kinds / 16, kinds % 16)), rest))
+    if is_type(kinds / 16) && is_type(kinds % 16) {
+        Ok((Some((kinds / 16, kinds % 16)), rest))
+    } else {
+        Err(Rule::Thrift)
+    }
 }
