@@ -1,1 +1,5 @@
+pub mod Back
+pub mod Merged
+pub mod SameNames
 pub mod Standing
+pub mod WholeRows

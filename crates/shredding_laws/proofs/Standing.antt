@@ -10,7 +10,7 @@ use Rattle.vs_bytes.specs.declared.leaf_columns.PrimKind.{PrimKind}
 use Rattle.shred_schema.specs.Fits.{fit}
 use Rattle.shred_schema.specs.Groups.{Group, group, Kind, free, scalar, object_of, list_of, Groups, no_groups, field}
 use Rattle.shred_schema.specs.Lawful.{HasValue, IsWritten, AllWritten, EachNode, EachIn, EachField}
-use Rattle.shred_schema.specs.Recs.{Rec, rec, empty, EachRec}
+use Rattle.shred_schema.specs.Recs.{rec, empty, EachRec}
 use Rattle.shred_schema.specs.Shapes.{MayStand, Stands, StandsIn, FieldsStandIn, IsOf, HasShape}
 use Rattle.shred_schema.specs.declared.nodes.Slot.{Slot}
 use Rattle.shred_schema.specs.declared.nodes.Slot.TheVariants.{Absent, Required, Optional}
