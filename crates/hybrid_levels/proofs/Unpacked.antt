@@ -27,6 +27,23 @@ low_small n width h =
 pub mask_is : (n width : ℕ) → width ≤ 32 → bit_and n (1 * 2 ^ width % 18446744073709551616 - 1) ≡ n % 2 ^ width
 mask_is n width h = ap (λ (x : ℕ). bit_and n (x - 1)) (one_shl width 64 (omega (arith, h))) ∙ and_mask n width
 
+-- the first 4 numbers, two in each word
+pub two_and_two : (width word : ℕ) → width ≤ 32 → unpacked width 4 word ≡ unpacked width 2 (word % 2 ^ 64) ++ unpacked width 2 (word / 2 ^ (2 * width) % 2 ^ 64)
+two_and_two width word h =
+    let turned : width * 2 ≡ 2 * width = mul_comm width 2 in
+    let fit : width * 2 ≤ 64 = omega (arith, turned, h) in
+    unpacked_split width 2 2 word
+    ∙ ap (λ (x : ℕ). unpacked width 2 word ++ unpacked width 2 (word / 2 ^ x)) turned
+    ∙ ap (λ (xs : List ℕ). xs ++ unpacked width 2 (word / 2 ^ (2 * width))) (sym (unpacked_low width 2 64 word fit))
+    ∙ ap (λ (xs : List ℕ). unpacked width 2 (word % 2 ^ 64) ++ xs) (sym (unpacked_low width 2 64 (word / 2 ^ (2 * width)) fit))
+
+-- two lists of 4, each by its places
+pub joined : (width n : ℕ) (low high : List ℕ) → low ≡ unpacked width 4 n → high ≡ unpacked width 4 (n / 2 ^ (4 * width)) →
+    slice_index low 0 ∷ slice_index low 1 ∷ slice_index low 2 ∷ slice_index low 3 ∷ slice_index high 0 ∷ slice_index high 1 ∷ slice_index high 2 ∷ slice_index high 3 ∷ [] ≡ unpacked width 8 n
+joined width n low high a b =
+    let turned : width * 4 ≡ 4 * width = mul_comm width 4 in
+    rw (a, b) (sym (unpacked_split width 4 4 n ∙ ap (λ (x : ℕ). unpacked width 4 n ++ unpacked width 4 (n / 2 ^ x)) turned))
+
 -- one more number, in a loop over `xs`
 pub taken_on : (width len i left word n : ℕ) (xs : List ℕ) → take i xs ++ unpacked width (len - i) left ≡ unpacked width len word → i < len → length xs ≡ len → n ≡ left % 2 ^ width → take (i + 1) (set xs i n) ++ unpacked width (len - (i + 1)) (left / 2 ^ width) ≡ unpacked width len word
 taken_on width len i left word n xs before less size is =
