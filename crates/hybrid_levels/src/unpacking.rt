@@ -46,6 +46,7 @@ fn lowest(width: usize, word: u64) -> u32
 }
 
 // The first 8 numbers of a word, with no loop: their places are shifts by the same width.
+#[inline(always)]
 fn eight_of_word(width: usize, word: u64) -> [u32; 8]
     requires { width ≤ 8 }
     ensures { result ≡ unpacked width 8 word }
@@ -85,6 +86,7 @@ fn four_of_word(width: usize, word: u128) -> [u32; 4]
 }
 
 // The 4 numbers from bit `place` on.
+#[inline(always)]
 fn four_from(width: usize, bytes: &[u8], place: usize) -> [u32; 4]
     requires narrow { width ≤ 32 }
     requires one_word { place % 8 + 4 * width ≤ 128 }
@@ -98,6 +100,7 @@ fn four_from(width: usize, bytes: &[u8], place: usize) -> [u32; 4]
 }
 
 // The 8 numbers of a group.
+#[inline(always)]
 fn eight(width: usize, bytes: &[u8]) -> [u32; 8]
     requires narrow { width ≤ 32 }
     requires there { width ≤ length bytes.now }
@@ -120,12 +123,11 @@ fn unpack_group(width: usize, bytes: &[u8], into: &mut [u32])
     requires few { length into.old ≤ 8 }
     ensures { into.new ≡ unpacked width (length into.old) (little bytes.now) }
 {
-    let numbers = eight(width, bytes);
-    if into.len() == 8 {
-        into.copy_from_slice(&numbers);
+    let len = into.len();
+    if len == 8 {
+        into.copy_from_slice(&eight(width, bytes));
     } else {
-        let len = into.len();
-        into.copy_from_slice(&numbers[..len]);
+        into.copy_from_slice(&eight(width, bytes)[..len]);
     }
 }
 

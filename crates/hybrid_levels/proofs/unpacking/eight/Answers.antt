@@ -1,4 +1,4 @@
-use Rattle.std.proofs.Common.{◌≡◌, ◌∙◌, ap, ℕ, ◌*◌, arith}
+use Rattle.std.proofs.Common.{◌∙◌, ap, ℕ, ◌*◌, arith}
 use Rattle.std.proofs.Math.Nat.{mul_comm, div-one}
 use Rattle.vs_bytes.specs.PackedNumbers.{unpacked, little}
 use Rattle.hybrid_levels.proofs.Unpacked.{same_unpacked, joined}

@@ -1,4 +1,4 @@
-use Rattle.std.proofs.Common.{◌∙◌, sym}
+use Rattle.std.proofs.Common.{sym}
 use Rattle.hybrid_levels.proofs.Unpacked.{two_and_two}
 use Rattle.hybrid_levels.proofs.unpacking.four_of_word.Goals as goal
 
