@@ -1,0 +1,2 @@
+-- items of one entry, and rows that are whole
+pub mod OneEntry

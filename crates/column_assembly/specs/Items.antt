@@ -1,0 +1,15 @@
+-- What is asked of the first item of a leaf's entries.
+use Rattle.std.specs.Prelude.{ℕ, List, [], ◌∷◌, Bool, false, ◌&&◌, ◌||◌, not}
+use Rattle.vs_bytes.specs.declared.leaf_columns.Entry.{Entry}
+use Rattle.record_assembly.specs.Cuts.{later_items, is_nil}
+use Rattle.record_assembly.specs.Reading.{has_levels}
+
+-- it is one entry, which has these levels
+abbrev pub is_one : ℕ → ℕ → List Entry → Bool
+is_one r d [] = false
+is_one r d (e ∷ []) = has_levels r d e
+is_one r d (e ∷ f ∷ es) = false
+
+-- a row's entries are all there: another row begins after them, or the leaf has ended
+abbrev pub is_whole : Bool → List Entry → Bool
+is_whole ended es = not (is_nil es) && (ended || not (is_nil (later_items 0 es)))

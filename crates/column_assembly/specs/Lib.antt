@@ -1,0 +1,2 @@
+-- what is asked of the first item of some entries
+pub mod Items
