@@ -1,6 +1,6 @@
 //! The entries that are left in a leaf.
 
-ghost use Rattle.std.specs.Prelude.{◌≡◌, ◌++◌, [], not, true, drop, IfSome, OnOk, OnErr};
+ghost use Rattle.std.specs.Prelude.{◌≡◌, ◌++◌, [], not, true, false, drop, IfSome, OnOk, OnErr};
 ghost use Rattle.record_assembly.specs.Cuts.{until, first_item, later_items, is_nil};
 ghost use Rattle.record_assembly.specs.Reading.{is_null, only_cell};
 ghost use Rattle.column_assembly.specs.Items.{is_whole};
@@ -102,6 +102,7 @@ impl Cursor {
     pub fn take_null(&mut self, lists: u16, rep: u16, def: u16) -> bool
         ensures was { result ≡ is_null rep def (first_item lists self.old) }
         ensures next { result ≡ true → self.new ≡ later_items lists self.old }
+        ensures kept { result ≡ false → self.new ≡ self.old }
     {
         if !self.is_null(lists, rep, def) {
             return false;
