@@ -1,5 +1,8 @@
 -- What is asked of the first item of a leaf's entries.
-use Rattle.std.specs.Prelude.{ℕ, List, [], ◌∷◌, Bool, false, ◌&&◌, ◌||◌, not}
+use Rattle.std.specs.Prelude.{ℕ, List, [], ◌∷◌, Bool, false, ◌&&◌, ◌||◌, not, cond, Option, Some, None}
+use Rattle.vs_bytes.specs.declared.leaf_columns.Cell.{Cell}
+use Rattle.vs_bytes.specs.declared.leaf_columns.PrimKind.{PrimKind}
+use Rattle.shred_schema.specs.Cells.{is_of_prim}
 use Rattle.vs_bytes.specs.declared.leaf_columns.Entry.{Entry}
 use Rattle.record_assembly.specs.Cuts.{later_items, is_nil}
 use Rattle.record_assembly.specs.Reading.{has_levels}
@@ -13,3 +16,8 @@ is_one r d (e ∷ f ∷ es) = false
 -- a row's entries are all there: another row begins after them, or the leaf has ended
 abbrev pub is_whole : Bool → List Entry → Bool
 is_whole ended es = not (is_nil es) && (ended || not (is_nil (later_items 0 es)))
+
+-- a cell, where it is one of the kind
+abbrev pub cell_of : PrimKind → Option Cell → Option Cell
+cell_of q None = None
+cell_of q (Some c) = cond (is_of_prim q c) (Some c) None

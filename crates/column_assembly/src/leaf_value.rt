@@ -2,13 +2,16 @@
 
 ghost use Rattle.std.specs.Prelude.{◌≡◌, ◌+◌, ◌^◌, ◌<◌, ◌≤◌, true, length, IfSome};
 ghost use Rattle.shred_schema.specs.Groups.{slot_width};
-ghost use Rattle.record_assembly.specs.Reading.{bytes_read, value_read};
+ghost use Rattle.shred_schema.specs.Cells.{is_of_prim};
+ghost use Rattle.record_assembly.specs.Reading.{only_cell, bytes_read, value_read};
+ghost use Rattle.column_assembly.specs.Items.{cell_of};
 ghost use Rattle.column_assembly.specs.Leaves.{heads, TakenAt, Passed};
 
+use crate::cell_kind::suits;
 use crate::entry_cursor::Cursor;
 use crate::leaf_range::take_null;
 use shred_schema::Slot;
-use vs_bytes::{Bytes, Cell};
+use vs_bytes::{Bytes, Cell, Prim};
 
 /// Takes the bytes of a leaf's first item, where that is one entry with bytes and these levels.
 fn take_bytes(cursors: &mut [Cursor], leaf: usize, lists: u16, rep: u16, def: u16) -> Option<Bytes>
@@ -49,4 +52,24 @@ pub fn take_value(
             Some(Some(take_bytes(cursors, leaf, lists, rep, def + 1)?))
         }
     }
+}
+
+/// Takes the cell of a leaf, where it has these levels and is one of the kind. `None` where it isn't; then how far the
+/// leaf is taken is open.
+#[tactic(auto, using(crate::proofs::Passing::passed_one))]
+pub fn take_cell(
+    cursors: &mut [Cursor],
+    leaf: usize,
+    prim: Prim,
+    lists: u16,
+    rep: u16,
+    def: u16,
+) -> Option<Cell>
+    requires { leaf < length cursors.old }
+    ensures cell { result ≡ cell_of prim (only_cell rep def (heads lists cursors.old leaf)) }
+    ensures passed { IfSome result (λ cell. Passed cursors.old cursors.new leaf 1 lists) }
+{
+    let cursor = &mut cursors[leaf];
+    let cell = cursor.take_cell(lists, rep, def)?;
+    if suits(prim, &cell) { Some(cell) } else { None }
 }
