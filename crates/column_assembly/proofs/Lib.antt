@@ -2,5 +2,3 @@
 pub mod OneEntry
 -- leaves of which the first items were taken
 pub mod Passing
--- entries that agree in the leaves that are read
-pub mod SameRead
