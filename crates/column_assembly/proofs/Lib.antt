@@ -6,3 +6,5 @@ pub mod Passing
 pub mod NestedCuts
 -- entries that agree in the leaves that are read
 pub mod SameRead
+-- how many items are read
+pub mod ItemCounts
