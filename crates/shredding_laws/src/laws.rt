@@ -1,6 +1,6 @@
 //! What is shredded comes back. Each law is the contract of an empty function.
 
-ghost use Rattle.std.specs.Prelude.{◌≡◌, ◌≤◌, ℕ, List, length, Option, None, Some, Ok};
+ghost use Rattle.std.specs.Prelude.{◌≡◌, ◌≤◌, ℕ, Bool, true, List, length, None, Some, Ok};
 ghost use Rattle.json_tree.specs.Json.{Json, depth_of};
 ghost use Rattle.json_tree.specs.Text.{text_of};
 ghost use Rattle.json_tree.specs.Valid.{IsValid};
@@ -11,8 +11,9 @@ ghost use Rattle.variant_laws.specs.Writable.{IsWritable};
 ghost use Rattle.shred_schema.specs.Groups.{Group, group, free};
 ghost use Rattle.shred_schema.specs.Lawful.{AllWritten};
 ghost use Rattle.shred_schema.specs.Ranges.{every};
-ghost use Rattle.shred_schema.specs.Shapes.{IsOf, HasShape};
+ghost use Rattle.shred_schema.specs.Shapes.{IsOf, HasShape, RowIsOf};
 ghost use Rattle.shred_schema.specs.declared.nodes.Slot.TheVariants.{Required};
+ghost use Rattle.schema_parsing.specs.Grammar.{IsSchema};
 ghost use Rattle.shredder.specs.Shredded.{by_names, shredded, shred_row};
 ghost use Rattle.unshredder.specs.Rows.{row_of};
 ghost use Rattle.unshredder.specs.Seen.{seen};
@@ -38,4 +39,11 @@ pub fn records_are_of_their_node()
     ensures shape { (code : Json → List ℕ) (node : Group) (tree : Json) → AllWritten node → IsValid tree → HasShape node (shredded code node tree) }
     ensures optional { (code : Json → List ℕ) (node : Group) (tree : Json) → AllOptional node → IsValid tree → IsOf node (shredded code node tree) }
     ensures required { (code : Json → List ℕ) (tree : Json) → IsOf (group Required free) (shredded code (group Required free) tree) }
+{}
+
+/// The row record of a value is one of a column that the schema describes, optional or not, and that of no value is one
+/// of an optional column. So what is shredded by a schema can be written.
+pub fn rows_are_of_their_schema()
+    ensures present { (optional : Bool) (text : List ℕ) (schema : Group) (tree : Json) (widths : Widths) → IsSchema text schema → IsValid tree → RowIsOf optional schema (shred_row schema (Some tree) widths) }
+    ensures absent { (schema : Group) (widths : Widths) → RowIsOf true schema (shred_row schema None widths) }
 {}

@@ -8,4 +8,7 @@
 
 mod laws;
 
-pub use laws::records_are_of_their_node;
+pub use laws::{
+    records_are_of_their_node, rows_are_of_their_schema, rows_come_back,
+    what_is_shredded_comes_back,
+};
