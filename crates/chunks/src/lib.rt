@@ -7,6 +7,8 @@
 //! |---|---|
 //! | `page_walk` | the pages in the bytes of a chunk |
 //! | `chunk_reader` | `ChunkReader`: the entries of a chunk, page by page |
+//! | `page_cuts` | how many entries the next page has that is written |
+//! | `chunk_writing` | `write_chunk`: a chunk of entries |
 //! | `laws` | what is written reads back |
 #![tactic(auto)]
 

@@ -1,7 +1,7 @@
 //! Rows of shredded Variants, made whole (VariantShredding.md, "Reconstructing a Shredded Variant").
 //!
 //! What a row record means, and the order of the rules, is defined in `specs/`. A row is read under a mask, which says
-//! of each leaf column whether it is read. What isn't read counts as missing.
+//! of each leaf column whether it is read. A value or typed part that isn't read counts as missing.
 //!
 //! | Module | What it holds |
 //! |---|---|

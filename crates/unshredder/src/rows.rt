@@ -36,8 +36,9 @@ fn names_needed(needed: bool, meta: &[u8]) -> Result<MetaRef<'_>, Rule>
 /// The row of a row record, or the first rule that it violates (VariantShredding.md, "Reconstructing a Shredded
 /// Variant"). `None` where the row is absent.
 ///
-/// `mask` says of each leaf whether it is read, in their order. What isn't read counts as missing, and no rule is tested
-/// that rests on it.
+/// `mask` says of each leaf whether it is read, in their order. A value or typed part that isn't read counts as missing,
+/// and no rule is tested that rests on it. The metadata is judged wherever a value that is read is there, so a mask that
+/// reads a value reads leaf 0 too.
 #[tactic(auto, unfolding(crate::specs::Rows::row_seen))]
 pub fn unshred(
     alloc: Global,
