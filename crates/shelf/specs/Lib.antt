@@ -1,0 +1,4 @@
+pub mod Storage
+pub mod Calls
+pub mod Memory
+pub mod Folder
