@@ -171,8 +171,8 @@ impl Shelf for MemShelf {
         }
     }
 
-    #[tactic(auto, using(crate::proofs::Adding::adds_failed, crate::proofs::Adding::adds_nothing))]
     /// A call that is to fail adds the first half of the bytes, where there is memory for them.
+    #[tactic(auto, using(crate::proofs::Adding::adds_failed, crate::proofs::Adding::adds_nothing))]
     fn append(&mut self, name: &Text, bytes: &[u8]) -> Result<(), ShelfError>
         requires there { Has (mem_storage self.old).files name.now }
         ensures adds { Adds (mem_storage self.old) (mem_storage self.new) name.now bytes.now result }
