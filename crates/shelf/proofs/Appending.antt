@@ -1,13 +1,15 @@
 -- Bytes at the end of a file, one piece after another.
-use Rattle.std.proofs.Common.{◌≡◌, ◌∙◌, ℕ, ◌+◌, ◌≤◌, List, [], ◌∷◌, ◌++◌, length, take, Option, Some, None, Bool, true, false, cond, sym, ap, subst, refl, unwrap_or, IsSome, append-nil, append_assoc, Ordering, arith}
+use Rattle.std.proofs.Common.{◌≡◌, ◌∙◌, ℕ, ◌+◌, ◌≤◌, List, [], ◌∷◌, ◌++◌, length, take, Option, Some, None, Ok, Err, Bool, true, false, cond, sym, ap, subst, refl, unwrap_or, IsSome, append-nil, append_assoc, Ordering, arith}
 use Rattle.std.proofs.lemmas.Bool.{false≢true}
 use Rattle.std.specs.declared.cmp.Ordering.TheVariants.{Less, Equal, Greater}
 use Rattle.std.specs.FinMap.{FinMap, get, insert, get-insert, get_tied, same_map, slice_cmp-IsAntisymmetric, nat_cmp-IsAntisymmetric}
 use Rattle.std.specs.Cmp.{tied_itself}
 use Rattle.std.specs.Cmp.Lexicographic.{slice_cmp, nat_list_cmp_total}
 use Rattle.std.specs.Ordering.{nat_cmp, eq_by_cmp, is_eq}
-use Rattle.shelf.specs.Storage.{Files, Has, with_file, appended}
+use Rattle.shelf.specs.Storage.{Files, Storage, Has, with_file, appended}
 use Rattle.shelf.specs.Memory.{GainsPrefix}
+use Rattle.shelf.specs.Calls.{Measures, Creates, Adds}
+use Rattle.shelf.specs.declared.shelf.ShelfError.TheVariants.{Failed}
 
 abbrev order : List ℕ → List ℕ → Ordering
 order = slice_cmp nat_cmp
@@ -79,3 +81,16 @@ gains_none m n name bytes some same = record { count = 0; within = omega arith; 
 pub gains_part : (m n : Files) (name bytes part : List ℕ) (count : ℕ) → part ≡ take count bytes → count ≤ length bytes → n ≡ insert m name (unwrap_or (get m name) [] ++ part) → GainsPrefix m n name bytes
 gains_part m n name bytes part count is within same =
     record { count = count; within = within; gained = ap Some (same ∙ ap (λ (s : List ℕ). insert m name (unwrap_or (get m name) [] ++ s)) is) }
+
+-- a file that was made is there, and stays there where bytes are added to it
+pub there_once_created : (before after : Storage) (name : List ℕ) → Creates before after name (Ok tt) → Has after.files name
+there_once_created before after name made = subst (λ (s : Storage). Has s.files name) (sym made.1) (has_created before.files name [])
+
+pub there_once_added : (before after : Storage) (name bytes : List ℕ) → Adds before after name bytes (Ok tt) → Has after.files name
+there_once_added before after name bytes added = subst (λ (s : Storage). Has s.files name) (sym added) (has_appended before.files name bytes)
+
+pub there_after_part : (before after : Storage) (name bytes : List ℕ) → Adds before after name bytes (Err Failed) → Has after.files name
+there_after_part before after name bytes added = subst (λ (s : Storage). Has s.files name) (sym added.3) (has_appended before.files name (take added.0 bytes))
+
+pub there_once_measured : (before after : Storage) (name : List ℕ) (size : ℕ) → Has before.files name → Measures before after name (Ok size) → Has after.files name
+there_once_measured before after name size has measured = subst (λ (s : Storage). Has s.files name) (sym measured.1) has
