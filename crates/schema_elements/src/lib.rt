@@ -7,7 +7,11 @@
 #![tactic(auto)]
 
 mod elements;
+mod entries;
 mod logical_types;
+mod unions;
 
 pub use elements::{ElementList, SchemaElement};
+pub use entries::{Flag, Small, Words};
 pub use logical_types::Logical;
+pub use unions::{Inside, UnionSlots, put_member};
