@@ -1,2 +1,2 @@
-pub mod Members
+pub mod Meeting
 pub mod Texts

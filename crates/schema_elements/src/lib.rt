@@ -9,9 +9,13 @@
 mod elements;
 mod entries;
 mod logical_types;
+mod members;
 mod unions;
 
 pub use elements::{ElementList, SchemaElement};
 pub use entries::{Flag, Small, Words};
-pub use logical_types::Logical;
+pub use logical_types::{Logical, LogicalDraft};
+pub use members::{
+    DecimalDraft, EmptyDraft, IntegerDraft, MemberSlots, TimeDraft, UnitDraft, VariantDraft,
+};
 pub use unions::{Inside, UnionSlots, put_member};

@@ -79,7 +79,7 @@ impl UnionSlots {
 }
 
 /// Reads the value of member `i` into the slots, or passes over it.
-#[tactic(auto, using(crate::proofs::Members::met_other), unfolding(thrift_compact::specs::Trees::at_shape, thrift_compact::specs::Trees::passed_over))]
+#[tactic(auto, using(crate::proofs::Meeting::met_other), unfolding(thrift_compact::specs::Trees::at_shape, thrift_compact::specs::Trees::passed_over))]
 pub fn put_member<'a, E: Entry<Out = Inside>>(
     alloc: Global,
     slots: &mut UnionSlots,
