@@ -1,3 +1,4 @@
 pub mod Unions
 pub mod FieldValues
 pub mod LogicalTypes
+pub mod SchemaElements

@@ -12,7 +12,7 @@ mod logical_types;
 mod members;
 mod unions;
 
-pub use elements::{ElementList, SchemaElement};
+pub use elements::{ElementDraft, ElementList, ElementSlots, SchemaElement};
 pub use entries::{Flag, Small, Words};
 pub use logical_types::{Logical, LogicalDraft};
 pub use members::{
