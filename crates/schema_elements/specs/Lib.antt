@@ -2,3 +2,4 @@ pub mod Unions
 pub mod FieldValues
 pub mod LogicalTypes
 pub mod SchemaElements
+pub mod ElementWriting

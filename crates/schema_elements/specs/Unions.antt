@@ -1,5 +1,5 @@
 -- Unions: structs of which one field should stand, the member.
-use Rattle.std.specs.Prelude.{ℕ, ◌==◌, Bool, true, false, not, ◌||◌, if◌then◌else◌, List, [], ◌∷◌, slice_set, slice_index_or, ℤ, pos, Option, Some, None, is_some, unwrap_or}
+use Rattle.std.specs.Prelude.{ℕ, ◌==◌, Bool, true, false, not, ◌||◌, if◌then◌else◌, List, [], ◌∷◌, slice_set, slice_index_or, ℤ, pos, Option, None, is_some, unwrap_or}
 use Rattle.std.specs.Ordering.{int_eq}
 use Rattle.thrift_compact.specs.Trees.{Value}
 use Rattle.schema_elements.specs.declared.unions.Inside.{Inside}

@@ -6,9 +6,11 @@
 //! | `logical_types` | `Logical`: its logical type |
 #![tactic(auto)]
 
+mod element_writing;
 mod elements;
 mod entries;
 mod logical_types;
+mod logical_writing;
 mod members;
 mod unions;
 
