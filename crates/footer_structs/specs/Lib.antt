@@ -1,0 +1,2 @@
+pub mod FooterWriting
+pub mod Footers
