@@ -3,3 +3,4 @@ pub mod FieldValues
 pub mod LogicalTypes
 pub mod SchemaElements
 pub mod ElementWriting
+pub mod SchemaTrees

@@ -12,6 +12,7 @@ mod entries;
 mod logical_types;
 mod logical_writing;
 mod members;
+mod schema_trees;
 mod unions;
 
 pub use elements::{ElementDraft, ElementList, ElementSlots, SchemaElement};
@@ -20,4 +21,5 @@ pub use logical_types::{Logical, LogicalDraft};
 pub use members::{
     DecimalDraft, EmptyDraft, IntegerDraft, MemberSlots, TimeDraft, UnitDraft, VariantDraft,
 };
+pub use schema_trees::{have_lengths, is_one_tree, leaf_count};
 pub use unions::{Inside, UnionSlots, put_member};
