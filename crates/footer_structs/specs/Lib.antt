@@ -1,2 +1,3 @@
 pub mod FooterWriting
 pub mod Footers
+pub mod ReadFooters

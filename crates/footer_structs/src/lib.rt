@@ -5,15 +5,18 @@
 //! | `column_orders` | how the order of a column is read |
 //! | `row_groups` | `GroupMeta`: a row group |
 //! | `file_metadata` | `FileMeta`: the metadata of a file |
+//! | `footer_reading` | `read_footer` |
 //! | `footer_writing` | `write_footer`, and the length of a footer |
 #![tactic(auto)]
 
 mod column_orders;
 mod file_metadata;
+mod footer_reading;
 mod footer_writing;
 mod row_groups;
 
 pub use column_orders::OrderDraft;
 pub use file_metadata::{FileDraft, FileMeta, FileSlots, GroupList};
+pub use footer_reading::read_footer;
 pub use footer_writing::{append_group, write_footer};
 pub use row_groups::{ChunkList, GroupDraft, GroupMeta, GroupSlots};
