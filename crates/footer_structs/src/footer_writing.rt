@@ -1,18 +1,23 @@
 //! The structs of a footer, written.
 
-ghost use Rattle.std.specs.Prelude.{◌≡◌, ◌++◌, OnOk, OnErr, IfSome};
+ghost use Rattle.std.specs.Prelude.{◌≡◌, ◌+◌, ◌<◌, ◌^◌, List, length, ◌++◌, OnOk, OnErr, IfOk, IfSome};
+ghost use Rattle.std.specs.List.{flat_map};
 ghost use Rattle.vs_bytes.specs.Outcome.{Grows};
 ghost use Rattle.thrift_compact.specs.Trees.{Fields};
 ghost use Rattle.thrift_compact.specs.Coded.{fields_coded};
 ghost use Rattle.thrift_structs.specs.Listed.{ListFits};
 ghost use Rattle.schema_elements.specs.ElementWriting.{ElementFits};
+ghost use Rattle.footer_structs.specs.declared.row_groups.GroupMeta.{GroupMeta};
 ghost use Rattle.footer_structs.specs.FooterWriting.{order_fields, group_fields, front_fields, back_fields, file_fields, footer_bytes, group_bytes, GroupFits, FileFits};
 
 use crate::column_orders::OrderDraft;
 use crate::file_metadata::{FileDraft, FileMeta};
 use crate::row_groups::{GroupDraft, GroupMeta};
 use schema_elements::{ElementDraft, EmptyDraft};
-use thrift_compact::{Binary, Int32, Int64, append_field, append_maybe, append_stop};
+use std::alloc::Global;
+use thrift_compact::{
+    Binary, Int32, Int64, append_field, append_list_header, append_maybe, append_stop,
+};
 use thrift_structs::{ChunkDraft, ListOf, StructCode, StructOf, write_struct};
 use vs_bytes::NoMemory;
 
@@ -107,4 +112,39 @@ pub fn append_group(into: &mut Vec<u8>, group: &GroupMeta) -> Result<(), NoMemor
     ensures err { OnErr result (into.new.items ≡ into.old.items) }
 {
     write_struct::<GroupDraft>(into, group)
+}
+
+// The header of field 4 after field 3, a list: the short form, of delta 1 and type 9.
+const GROUPS_HEADER: u8 = 0x19;
+
+// The bytes of a footer but those of its row groups, of which there are `groups`.
+#[tactic(auto, using(vs_bytes::proofs::Growing::grows_more, vs_bytes::proofs::Growing::grows_on))]
+fn append_frame(into: &mut Vec<u8>, meta: &FileMeta, groups: u32) -> Result<(), NoMemory>
+    requires schema { ListFits ElementFits meta.now.schema }
+    requires orders { IfSome meta.now.column_orders (ListFits (λ order. Unit {0})) }
+    ensures { OnOk result ((gs : List GroupMeta) → length gs ≡ groups → length into.old.items + length (footer_bytes (record meta.now { row_groups = gs })) ≡ length into.new.items + length (flat_map group_bytes gs)) }
+{
+    append_front(into, meta)?;
+    into.push(GROUPS_HEADER)?;
+    append_list_header(into, 12, groups)?;
+    append_back(into, meta)?;
+    Ok(())
+}
+
+/// How many bytes a footer takes with other row groups: there are `groups` of them, and they take `len` bytes. Those of
+/// `meta` don't count.
+pub fn footer_len(
+    alloc: Global,
+    meta: &FileMeta,
+    groups: u32,
+    len: usize,
+) -> Result<usize, NoMemory>
+    requires schema { ListFits ElementFits meta.now.schema }
+    requires orders { IfSome meta.now.column_orders (ListFits (λ order. Unit {0})) }
+    requires small { len < 2 ^ 63 }
+    ensures { IfOk result (λ n. (gs : List GroupMeta) → length gs ≡ groups → length (flat_map group_bytes gs) ≡ len → n ≡ length (footer_bytes (record meta.now { row_groups = gs }))) }
+{
+    let mut frame = Vec::new(alloc);
+    append_frame(&mut frame, meta, groups)?;
+    Ok(frame.len() + len)
 }

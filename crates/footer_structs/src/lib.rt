@@ -18,5 +18,5 @@ mod row_groups;
 pub use column_orders::OrderDraft;
 pub use file_metadata::{FileDraft, FileMeta, FileSlots, GroupList};
 pub use footer_reading::read_footer;
-pub use footer_writing::{append_group, write_footer};
+pub use footer_writing::{append_group, footer_len, write_footer};
 pub use row_groups::{ChunkList, GroupDraft, GroupMeta, GroupSlots};
