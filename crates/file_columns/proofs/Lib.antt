@@ -1,0 +1,8 @@
+-- fields of an object, gathered one by one
+pub mod Gathering
+-- names that are sorted
+pub mod NamesSorted
+-- trees that are passed over, and listed
+pub mod Passing
+-- how deep objects and lists may nest
+pub mod Rooms
