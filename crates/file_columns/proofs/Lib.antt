@@ -1,3 +1,5 @@
+-- lists of elements and their trees
+pub mod ForestFacts
 -- fields of an object, gathered one by one
 pub mod Gathering
 -- names that are sorted
@@ -6,3 +8,5 @@ pub mod NamesSorted
 pub mod Passing
 -- how deep objects and lists may nest
 pub mod Rooms
+-- columns are well-formed
+pub mod WellFormed

@@ -1,11 +1,11 @@
 -- Trees of a list of elements, passed over one by one.
-use Rattle.std.proofs.Common.{◌≡◌, ◌∙◌, sym, ap, refl, cond, Bool, true, false, ℕ, zero, suc, ◌+◌, ◌-◌, ◌*◌, ◌<◌, ◌≤◌, ◌^◌, List, [], ◌∷◌, ◌++◌, length, map, Option, None, Some, arith, append_assoc}
-use Rattle.std.specs.Prelude.{bytes_eq, find}
-use Rattle.std.proofs.lemmas.List.{append-nil, map-append}
+use Rattle.std.proofs.Common.{◌≡◌, ◌∙◌, sym, ap, refl, cond, true, false, ℕ, zero, suc, ◌+◌, ◌-◌, ◌*◌, ◌<◌, ◌≤◌, ◌^◌, List, [], ◌∷◌, ◌++◌, length, Option, None, Some, arith, append_assoc}
+use Rattle.std.specs.Prelude.{bytes_eq}
+use Rattle.std.proofs.lemmas.List.{append-nil}
 use Rattle.schema_elements.specs.declared.elements.SchemaElement.{SchemaElement}
-use Rattle.file_columns.specs.Elements.{child_count, is_leaf}
-use Rattle.file_columns.specs.Forests.{Forest, no_trees, tree, front, back, planted, forest, own_leaf, leaf_count}
-use Rattle.file_columns.specs.Columns.{PlacedElement, children, name_of, named}
+use Rattle.file_columns.specs.Elements.{child_count}
+use Rattle.file_columns.specs.Forests.{Forest, no_trees, tree, front, back, forest, own_leaf, leaf_count}
+use Rattle.file_columns.specs.Columns.{PlacedElement, children, named}
 
 -- the trees behind k trees and m more
 back_none : (m : ℕ) → back m no_trees ≡ no_trees

@@ -1,8 +1,6 @@
 -- How deep objects and lists may nest.
-use Rattle.std.proofs.Common.{◌≡◌, refl, true, false, ℕ, zero, suc, ◌-◌, List, Option, None, arith}
-use Rattle.shred_schema.specs.Groups.{Kind}
+use Rattle.std.proofs.Common.{◌≡◌, refl, true, false, ℕ, zero, suc, ◌-◌, None, arith}
 use Rattle.file_columns.specs.declared.places.Levels.{Levels}
-use Rattle.file_columns.specs.declared.places.PlacedLeaf.{PlacedLeaf}
 use Rattle.file_columns.specs.Elements.{note_of, is_list_note}
 use Rattle.file_columns.specs.Columns.{PlacedElement, children_in, node_in, fields_in, items_in, group_in}
 

@@ -1,6 +1,6 @@
 -- A schema is a list of elements, each group in front of what stands inside it, with the number of elements that stand
 -- directly inside (parquet.thrift, "FileMetaData.schema": depth first). This is the tree that the list stands for.
-use Rattle.std.specs.Prelude.{ℕ, zero, suc, ◌+◌, List, [], ◌∷◌, ◌++◌, cond}
+use Rattle.std.specs.Prelude.{◌≡◌, ℕ, zero, suc, ◌+◌, List, [], ◌∷◌, ◌++◌, cond}
 use Rattle.schema_elements.specs.declared.elements.SchemaElement.{SchemaElement}
 use Rattle.file_columns.specs.Elements.{child_count, is_leaf}
 
@@ -40,3 +40,13 @@ own_leaf e = cond (is_leaf e) 1 0
 abbrev pub leaf_count : Forest → ℕ
 leaf_count no_trees = 0
 leaf_count (tree e inside next) = own_leaf e + leaf_count inside + leaf_count next
+
+-- how many trees there are, and trees behind others
+abbrev pub tree_count : Forest → ℕ
+tree_count no_trees = 0
+tree_count (tree e inside next) = suc (tree_count next)
+
+-- each element tells how many stand inside it
+abbrev pub Tells : Forest → Type 0
+Tells no_trees = Unit {0}
+Tells (tree e inside next) = (tree_count inside ≡ child_count e) × Tells inside × Tells next

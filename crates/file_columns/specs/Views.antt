@@ -1,9 +1,5 @@
 -- What the code's values are seen as.
-use Rattle.std.specs.Prelude.{ℕ, List}
-use Rattle.shred_schema.specs.Groups.{Group, Kind}
-use Rattle.shred_schema.specs.Views.{group_of, kind_of}
-use Rattle.shred_schema.specs.declared.nodes.Node.{Node}
-use Rattle.shred_schema.specs.declared.nodes.Typed.{Typed}
+use Rattle.shred_schema.specs.Views.{group_of}
 use Rattle.file_columns.specs.declared.places.Child.{Child}
 use Rattle.file_columns.specs.declared.columns.FileColumn.{FileColumn}
 use Rattle.file_columns.specs.Elements.{child_count}

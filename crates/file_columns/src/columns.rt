@@ -1,7 +1,9 @@
 //! The column of a name.
 
-ghost use Rattle.std.specs.Prelude.{◌≡◌, ◌+◌, ◌*◌, ◌<◌, ◌^◌, map, IfOk};
+ghost use Rattle.std.specs.Prelude.{◌≡◌, ◌+◌, ◌*◌, ◌<◌, ◌^◌, map, length, IfOk};
 ghost use Rattle.vs_bytes.specs.Outcome.{Makes, Reads};
+ghost use Rattle.shred_schema.specs.Groups.{width};
+ghost use Rattle.shred_schema.specs.Lawful.{IsWellFormed};
 ghost use Rattle.shred_schema.specs.Views.{group_of};
 ghost use Rattle.file_columns.specs.Columns.{PlacedElement, top_in, column_in, column_view, is_ordered, judged, column_of};
 ghost use Rattle.file_columns.specs.Views.{seen, shown};
@@ -175,6 +177,13 @@ pub fn column(
     orders: &[i32],
 ) -> Result<FileColumn, Refusal>
     ensures exact { Makes shown result (column_of elements.now name.now orders.now) }
+    ensures well_formed { IfOk result (λ found. IsWellFormed (group_of found.column.node)) }
+    ensures leaves { IfOk result (λ found. length found.leaves ≡ 1 + width (group_of found.column.node)) }
+    ensures places { IfOk result (λ found. length found.places ≡ 1 + width (group_of found.column.node)) }
+    ensures ordered { IfOk result (λ found. length found.ordered ≡ 1 + width (group_of found.column.node)) }
 {
-    read_named(alloc, elements, name, orders)
+    match read_named(alloc, elements, name, orders) {
+        Ok(found) => Ok(found),
+        Err(refusal) => Err(refusal),
+    }
 }

@@ -14,14 +14,17 @@
 //! | `children` | the elements inside an element |
 //! | `places` | levels, and leaves with their places |
 //! | `elements` | what an element says: repetition, physical type, annotation |
+//! | `laws` | a list of elements and its trees |
 #![tactic(auto)]
 
 mod children;
 mod columns;
 mod elements;
+mod laws;
 mod members;
 mod names;
 mod nodes;
 mod places;
 
 pub use columns::{FileColumn, PlaceList, column};
+pub use laws::schemas_are_trees;

@@ -86,8 +86,8 @@ pub(crate) fn are_top_members(alloc: Global, children: &[Child<'_>]) -> Result<b
     if !each_is_top_member(children) {
         return Ok(false);
     }
-    let repeated = names_repeat(alloc, children)?;
-    Ok(!repeated)
+    let twice = names_repeat(alloc, children)?;
+    Ok(!twice)
 }
 
 /// A leaf of a kind, by the levels of the group that it stands in.

@@ -1,4 +1,4 @@
-use Rattle.std.proofs.Common.{◌∙◌, ap, refl, ◌+◌, ◌-◌, ◌^◌, [], ◌∷◌, map, arith}
+use Rattle.std.proofs.Common.{◌∙◌, ap, refl, ◌+◌, ◌-◌, [], ◌∷◌, map, arith}
 use Rattle.std.proofs.lemmas.List.{map-append}
 use Rattle.file_columns.specs.Columns.{children}
 use Rattle.file_columns.specs.Forests.{front, forest}

@@ -1,4 +1,4 @@
-use Rattle.std.proofs.Common.{ℕ, ◌+◌, ◌-◌, ◌<◌, ◌^◌, map, length}
+use Rattle.std.proofs.Common.{◌+◌, ◌-◌, ◌<◌, ◌^◌, map, length}
 use Rattle.file_columns.specs.Columns.{children}
 use Rattle.file_columns.specs.Forests.{front, forest}
 use Rattle.file_columns.specs.Views.{seen}

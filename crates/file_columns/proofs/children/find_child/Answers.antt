@@ -1,4 +1,4 @@
-use Rattle.std.proofs.Common.{◌≡◌, false, refl, ◌+◌, ◌-◌, ◌^◌, arith}
+use Rattle.std.proofs.Common.{◌≡◌, false, refl, ◌+◌, ◌-◌, arith}
 use Rattle.std.specs.Prelude.{bytes_eq}
 use Rattle.file_columns.specs.Columns.{children, named}
 use Rattle.file_columns.specs.Forests.{front, forest}

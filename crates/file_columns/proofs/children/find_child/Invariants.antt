@@ -1,4 +1,4 @@
-use Rattle.std.proofs.Common.{ℕ, ◌+◌, ◌-◌, ◌<◌, ◌^◌, length}
+use Rattle.std.proofs.Common.{◌+◌, ◌-◌, ◌<◌, ◌^◌, length}
 use Rattle.file_columns.specs.Columns.{children, named}
 use Rattle.file_columns.specs.Forests.{front, forest}
 use Rattle.file_columns.proofs.Passing.{IsSought}

@@ -1,6 +1,5 @@
 use Rattle.std.proofs.Common.{◌≡◌, ◌++◌, map, drop}
 use Rattle.file_columns.specs.declared.places.PlacedLeaf.{PlacedLeaf}
-use Rattle.file_columns.specs.Columns.{is_ordered}
 use Rattle.file_columns.proofs.columns.leaf_list.Given as goal
 
 abbrev pub invariant-loop-leaf : goal.invariant-loop-leaf

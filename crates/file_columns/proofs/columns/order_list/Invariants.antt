@@ -1,5 +1,4 @@
 use Rattle.std.proofs.Common.{◌≡◌, ◌++◌, map, drop}
-use Rattle.file_columns.specs.declared.places.PlacedLeaf.{PlacedLeaf}
 use Rattle.file_columns.specs.Columns.{is_ordered}
 use Rattle.file_columns.proofs.columns.order_list.Given as goal
 

@@ -1,10 +1,9 @@
-use Rattle.std.proofs.Common.{◌≡◌, ◌∙◌, ap, List, map, rules, sym, subst}
-use Rattle.std.specs.Prelude.{IsTrue, not}
+use Rattle.std.proofs.Common.{◌≡◌, List, map, rules, subst}
+use Rattle.std.specs.Prelude.{IsTrue}
 use Rattle.std.specs.List.Sorted.{IsPermutation}
 use Rattle.std.specs.Ordering.{is_lt}
 use Rattle.std.proofs.lemmas.Cmp.{nat_list_cmp_total}
 use Rattle.std.proofs.lemmas.List.Sorted.{answers_always, ranks_by}
-use Rattle.vs_bytes.specs.Names.{repeats}
 use Rattle.json_tree.proofs.MembersOrder.{order, Rise}
 use Rattle.file_columns.specs.declared.places.Child.{Child}
 use Rattle.file_columns.specs.Columns.{names_of}

@@ -1,7 +1,7 @@
-use Rattle.std.proofs.Common.{◌≡◌, ◌∙◌, ap, sym, ℕ, List, [], ◌∷◌, ◌++◌, ◌+◌, map, drop, Option, Some, arith}
+use Rattle.std.proofs.Common.{◌∙◌, ap, sym, ℕ, List, [], ◌∷◌, ◌++◌, ◌+◌, map, drop, Some}
 use Rattle.std.proofs.lemmas.List.{map-append}
-use Rattle.shred_schema.specs.Groups.{Group, object_of, groups_from}
-use Rattle.shred_schema.specs.Views.{group_of, kind_of, named}
+use Rattle.shred_schema.specs.Groups.{object_of, groups_from}
+use Rattle.shred_schema.specs.Views.{group_of, named}
 use Rattle.shred_schema.specs.declared.nodes.Node.{Node}
 use Rattle.shred_schema.proofs.Viewed.{kind_is_object}
 use Rattle.file_columns.specs.declared.places.PlacedLeaf.{PlacedLeaf}

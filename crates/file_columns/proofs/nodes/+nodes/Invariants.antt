@@ -1,6 +1,6 @@
-use Rattle.std.proofs.Common.{◌≡◌, ◌+◌, ◌*◌, map, drop}
+use Rattle.std.proofs.Common.{◌+◌, ◌*◌, map, drop}
 use Rattle.shred_schema.specs.Views.{named}
-use Rattle.file_columns.specs.Columns.{group_in, node_in, each_field}
+use Rattle.file_columns.specs.Columns.{group_in, node_in}
 use Rattle.file_columns.specs.Views.{seen}
 use Rattle.file_columns.proofs.Gathering.{IsGathered}
 use Rattle.file_columns.proofs.nodes.+nodes.Given as goal
