@@ -1,0 +1,2 @@
+-- parts of a record, as they are taken leaf by leaf
+pub mod Parts
