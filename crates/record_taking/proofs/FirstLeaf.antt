@@ -8,10 +8,8 @@ use Rattle.shred_schema.specs.Cells.{is_of_prim}
 use Rattle.shred_schema.specs.Groups.{Group, Kind, free, scalar, object_of, list_of, width, kind_width}
 use Rattle.shred_schema.specs.Ranges.{is_among, every}
 use Rattle.shred_schema.specs.Recs.{Rec, RecPart, empty, cell, fields, items, Recs, no_recs, recs, recs_from}
-use Rattle.shred_schema.specs.Shapes.{IsOf}
 use Rattle.shred_schema.proofs.LeafRanges.{among_from}
-use Rattle.level_striping.specs.Entries.{entries, part_entries}
-use Rattle.record_assembly.specs.Cuts.{until, first_item, later_items}
+use Rattle.record_assembly.specs.Cuts.{first_item}
 use Rattle.record_assembly.specs.Reading.{is_null, only_cell, items_read, longest, are_nil, are_null, cell_read, with_item, read, part_read, fields_read}
 use Rattle.record_assembly.specs.Shown.{part_shown}
 use Rattle.record_assembly.proofs.Complete.{begins_at, empty_shown, reaches_more}

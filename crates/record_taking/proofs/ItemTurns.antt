@@ -1,11 +1,11 @@
 -- The items of a list, one after the other: m is the level of the list round which the cursors are cut.
-use Rattle.std.proofs.Common.{◌≡◌, ◌∙◌, refl, sym, ap, ℕ, zero, suc, ◌+◌, ◌-◌, ◌<◌, ◌≤◌, nat_lt, Bool, true, false, not, cond, max, List, [], ◌∷◌, ◌++◌, length, map, slice_index_or, Option, Some, None, append_assoc, append-nil, arith}
+use Rattle.std.proofs.Common.{◌≡◌, ◌∙◌, refl, sym, ap, ℕ, zero, suc, ◌+◌, ◌-◌, ◌<◌, ◌≤◌, nat_lt, Bool, true, false, not, cond, List, [], ◌∷◌, ◌++◌, length, map, slice_index_or, Option, Some, None, append_assoc, append-nil, arith}
 use Rattle.std.specs.Option.{option_map}
 use Rattle.std.proofs.lemmas.Bool.{lt-ltb}
 use Rattle.std.proofs.lemmas.List.{map-append}
 use Rattle.vs_bytes.specs.declared.leaf_columns.Entry.{Entry}
 use Rattle.shred_schema.specs.Groups.{Group, width}
-use Rattle.shred_schema.specs.Ranges.{is_among, every, all_leaves}
+use Rattle.shred_schema.specs.Ranges.{is_among, every}
 use Rattle.shred_schema.specs.Recs.{Rec}
 use Rattle.shred_schema.specs.Views.{rec_of}
 use Rattle.shred_schema.specs.declared.records.Record.{Record}
@@ -46,7 +46,7 @@ nil_one : (es : List Entry) → length es ≡ 0 → is_nil es ≡ true
 nil_one [] h = refl
 nil_one (e ∷ es) h = absurd (omega (arith, h))
 
-nil_all : (k c : ℕ) (es : ℕ → List Entry) → longest k c es ≡ 0 → are_nil every k c es ≡ true
+pub nil_all : (k c : ℕ) (es : ℕ → List Entry) → longest k c es ≡ 0 → are_nil every k c es ≡ true
 nil_all k zero es h = refl
 nil_all k (suc c) es h = rw (nil_one (es k) (omega (arith, h)), nil_all (k + 1) c es (omega (arith, h))) refl
 

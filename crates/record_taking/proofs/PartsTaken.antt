@@ -1,5 +1,5 @@
 -- Parts that are taken one after the other, joined to records and fields.
-use Rattle.std.proofs.Common.{◌≡◌, ◌∙◌, refl, sym, ap, ap₂, subst, ℕ, zero, suc, ◌+◌, ◌-◌, ◌<◌, ◌≤◌, Bool, true, false, cond, max, List, [], ◌∷◌, ◌++◌, length, map, drop, get_or, Option, Some, None, zero-add, add-zero, arith}
+use Rattle.std.proofs.Common.{◌≡◌, ◌∙◌, refl, sym, ap, ap₂, subst, ℕ, zero, suc, ◌+◌, ◌<◌, ◌≤◌, Bool, true, false, cond, List, [], ◌∷◌, ◌++◌, length, map, drop, get_or, Option, Some, None, zero-add, add-zero, arith}
 use Rattle.std.specs.Option.{option_map}
 use Rattle.std.proofs.lemmas.List.{map-append}
 use Rattle.vs_bytes.specs.declared.leaf_columns.Entry.{Entry}
@@ -7,18 +7,18 @@ use Rattle.shred_schema.specs.declared.nodes.Slot.{Slot}
 use Rattle.shred_schema.specs.declared.nodes.Slot.TheVariants.{Absent}
 use Rattle.shred_schema.specs.declared.nodes.Node.{Node}
 use Rattle.shred_schema.specs.declared.records.Record.{Record}
-use Rattle.shred_schema.specs.Groups.{Group, group, Kind, free, scalar, object_of, list_of, Groups, no_groups, field, groups_from, slot_width, width, kind_width, groups_width, height, groups_height}
+use Rattle.shred_schema.specs.Groups.{Group, group, Kind, free, scalar, object_of, list_of, groups_from, slot_width, width, kind_width, groups_width, height, groups_height}
 use Rattle.shred_schema.specs.Lawful.{HasLeaves, KindHasLeaves, GroupsHaveLeaves}
 use Rattle.shred_schema.specs.Ranges.{is_among, every}
-use Rattle.shred_schema.specs.Recs.{Rec, rec, RecPart, empty, items, Recs, no_recs, recs, recs_from}
+use Rattle.shred_schema.specs.Recs.{Rec, RecPart, empty, items, Recs, no_recs, recs, recs_from}
 use Rattle.shred_schema.specs.Views.{group_of, named, rec_of}
 use Rattle.shred_schema.proofs.Viewed.{fields_at, fields_end}
 use Rattle.record_assembly.specs.Laws.{Have}
-use Rattle.record_assembly.specs.Reading.{is_null, value_read, with_part, with_field, items_read, are_null, read, part_read, fields_read}
+use Rattle.record_assembly.specs.Reading.{is_null, value_read, with_part, with_field, are_null, read, part_read, fields_read}
 use Rattle.record_assembly.proofs.Same.{read_same, fields_same}
 use Rattle.column_assembly.specs.Leaves.{heads, Passed}
 use Rattle.record_taking.specs.Parts.{is_free, typed_read, list_read, items_of}
-use Rattle.record_taking.proofs.FirstLeaf.{part_not_begun, list_not_begun, among_here}
+use Rattle.record_taking.proofs.FirstLeaf.{part_not_begun, list_not_begun}
 use Rattle.record_taking.proofs.Joined.{untouched}
 
 -- ---- a record: its value and its typed part

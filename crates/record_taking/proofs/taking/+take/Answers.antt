@@ -2,16 +2,14 @@ use Rattle.std.proofs.Common.{◌≡◌, ◌∙◌, sym, ap, ◌+◌, ◌-◌, t
 use Rattle.std.specs.Option.{option_map}
 use Rattle.std.proofs.lemmas.Result.{err_from_is_err_and}
 use Rattle.vs_bytes.proofs.Refusals.{fails}
-use Rattle.shred_schema.specs.Groups.{Groups, Kind, Group, list_of, groups_from, width, kind_width, groups_width, height, kind_height, groups_height}
+use Rattle.shred_schema.specs.Groups.{list_of, groups_from, width, kind_width, groups_width, groups_height}
 use Rattle.shred_schema.specs.Ranges.{every}
-use Rattle.shred_schema.specs.Recs.{Rec, recs_from}
-use Rattle.shred_schema.specs.Views.{group_of, kind_of, groups_of, named, rec_of, part_of}
-use Rattle.shred_schema.specs.declared.nodes.Node.{Node}
-use Rattle.shred_schema.specs.declared.records.Record.{Record}
+use Rattle.shred_schema.specs.Recs.{recs_from}
+use Rattle.shred_schema.specs.Views.{group_of, kind_of, groups_of, named, rec_of}
 use Rattle.shred_schema.proofs.Viewed.{fields_are, kind_is_list, node_is, rec_is}
 use Rattle.level_striping.proofs.Walks.{part_is_items}
-use Rattle.record_assembly.specs.Reading.{are_nil, are_null, read, part_read, fields_read}
-use Rattle.column_assembly.specs.Leaves.{heads, Passed}
+use Rattle.record_assembly.specs.Reading.{are_nil, are_null, fields_read}
+use Rattle.column_assembly.specs.Leaves.{heads}
 use Rattle.record_taking.specs.Parts.{rests}
 use Rattle.record_taking.proofs.ItemTurns.{list_first, turn_some, turn_none, turn_end, turn_last, between_first, between_more, rests_nil, first_taken, item_taken, items_taken, items_missing, shrinks}
 use Rattle.record_taking.proofs.Joined.{passed_both, passed_end, passed_to, taken_whole}
