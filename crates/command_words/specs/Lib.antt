@@ -1,6 +1,12 @@
 pub mod Arguments
+pub mod Check
+pub mod Files
 pub mod Limits
+pub mod Load
+pub mod Numbers
 pub mod Options
+pub mod Query
 pub mod Reading
 pub mod Scan
 pub mod Variant
+pub mod Widths

@@ -3,3 +3,6 @@ use Rattle.std.specs.Prelude.{ℕ}
 
 abbrev pub most_paths : ℕ
 most_paths = 64
+
+abbrev pub most_digits : ℕ
+most_digits = 10

@@ -15,11 +15,13 @@ pub record Given : Type 0 where
 abbrev pub has_paths : List (List ℕ) → Bool
 has_paths paths = nat_le 1 (length paths) && nat_le (length paths) most_paths
 
+-- the paths, and the filter that options give
+abbrev pub paths_given : List (List ℕ) → List (List ℕ × List ℕ) → Option Given
+paths_given paths options = if has_paths paths then option_map (λ filter. record { filter = filter; paths = paths }) (value_of (codes "--where") options) else None
+
 -- a filter may be given, and the operands are paths
 abbrev pub scan_given : Arguments → Option Given
-scan_given given =
-    if are_known (codes "--where" ∷ []) given.options && has_paths given.operands
-    then option_map (λ filter. record { filter = filter; paths = given.operands }) (value_of (codes "--where") given.options) else None
+scan_given given = if are_known (codes "--where" ∷ []) given.options then paths_given given.operands given.options else None
 
 -- what the words after `scan` give, or none where they aren't its words
 abbrev pub scan_words : List (List ℕ) → Option Given

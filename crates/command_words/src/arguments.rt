@@ -2,12 +2,12 @@
 
 ghost use Rattle.std.specs.Prelude.{◌≡◌, [], Some};
 ghost use Rattle.std.specs.Option.{option_map};
-ghost use Rattle.vs_bytes.specs.Outcome.{Reads};
 ghost use Rattle.command_words.specs.Arguments.{is_dashed, is_option, name_of, value_in, with_option, nothing_given, arguments_of};
-ghost use Rattle.command_words.specs.Reading.{given_by, before};
+ghost use Rattle.command_words.specs.Reading.{given_by, before, ReadsWords};
 
+use crate::fault::WordFault;
 use std::alloc::Global;
-use vs_bytes::{Absent, Refused, Text};
+use vs_bytes::Text;
 
 /// An option's name, with its dashes, and its value.
 #[derive(Clone, Copy, Drop)]
@@ -56,19 +56,19 @@ fn split_option(word: &str) -> (&str, Option<&str>)
 
 impl<'a> CommandWords<'a> {
     /// Takes an option. Its value may not begin with `-`.
-    fn take_option(&mut self, name: &'a str, value: &'a str) -> Result<(), Refused<Absent>>
-        ensures { Reads (λ done. given_by self.new) result (before (given_by self.old) (with_option name.now value.now nothing_given)) }
+    fn take_option(&mut self, name: &'a str, value: &'a str) -> Result<(), WordFault>
+        ensures { ReadsWords (λ done. given_by self.new) result (before (given_by self.old) (with_option name.now value.now nothing_given)) }
     {
         if is_dashed(value.as_bytes()) {
-            return Err(Refused::Fault(Absent));
+            return Err(WordFault::Usage);
         }
         self.options.push(OptionWord { name, value })?;
         Ok(())
     }
 
     /// Takes words as operands.
-    fn take_operands(&mut self, words: &'a [Text]) -> Result<(), Refused<Absent>>
-        ensures { Reads (λ done. given_by self.new) result (before (given_by self.old) (Some (record { options = []; operands = words.now }))) }
+    fn take_operands(&mut self, words: &'a [Text]) -> Result<(), WordFault>
+        ensures { ReadsWords (λ done. given_by self.new) result (before (given_by self.old) (Some (record { options = []; operands = words.now }))) }
     {
         for word in words {
             self.operands.push(word.as_str())?;
@@ -78,8 +78,8 @@ impl<'a> CommandWords<'a> {
 }
 
 /// Reads the words in turn.
-pub fn read_words<'a>(alloc: Global, words: &'a [Text]) -> Result<CommandWords<'a>, Refused<Absent>>
-    ensures { Reads given_by result (arguments_of words.now) }
+pub fn read_words<'a>(alloc: Global, words: &'a [Text]) -> Result<CommandWords<'a>, WordFault>
+    ensures { ReadsWords given_by result (arguments_of words.now) }
 {
     let mut read = CommandWords {
         options: Vec::new(alloc),
@@ -92,26 +92,26 @@ pub fn read_words<'a>(alloc: Global, words: &'a [Text]) -> Result<CommandWords<'
         if text.as_bytes() == b"--".as_slice() {
             match read.take_operands(more) {
                 Ok(()) => return Ok(read),
-                Err(refused) => return Err(refused),
+                Err(fault) => return Err(fault),
             }
         } else if is_option(text.as_bytes()) {
             match split_option(text) {
                 (name, Some(value)) => match read.take_option(name, value) {
                     Ok(()) => {}
-                    Err(refused) => return Err(refused),
+                    Err(fault) => return Err(fault),
                 },
                 (name, None) => {
                     let [value, others @ ..] = more else {
-                        return Err(Refused::Fault(Absent));
+                        return Err(WordFault::Usage);
                     };
                     match read.take_option(name, value.as_str()) {
                         Ok(()) => rest = others,
-                        Err(refused) => return Err(refused),
+                        Err(fault) => return Err(fault),
                     }
                 }
             }
         } else if is_dashed(text.as_bytes()) {
-            return Err(Refused::Fault(Absent));
+            return Err(WordFault::Usage);
         } else {
             read.operands.push(text)?;
         }

@@ -1,5 +1,6 @@
 //! Why words ask for nothing.
 
+use std::alloc::AllocFailed;
 use thiserror::Error;
 
 /// Why words ask for nothing.
@@ -11,4 +12,15 @@ pub enum WordFault {
     /// There was no memory to gather them.
     #[error("out of memory")]
     NoMemory,
+}
+
+impl<T: Drop> From<AllocFailed<T>> for WordFault {
+    ghost use Rattle.std.specs.Prelude.{◌≡◌};
+    ghost use Rattle.command_words.specs.declared.fault.WordFault.TheVariants as fault;
+
+    ghost from_gives = { λ _ e. e ≡ fault.NoMemory };
+
+    fn from(_error: AllocFailed<T>) -> WordFault {
+        WordFault::NoMemory
+    }
 }

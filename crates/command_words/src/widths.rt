@@ -1,37 +1,29 @@
-//! Widths, in bytes, from the values of options.
+//! Widths of offsets and of field ids, in bytes, from the values of options.
 
-ghost use Rattle.std.specs.Prelude.{◌≤◌, IfSome};
-ghost use Rattle.std.specs.Option.{option_map};
+ghost use Rattle.std.specs.Prelude.{map};
 ghost use Rattle.vs_bytes.specs.Outcome.{Finds};
-ghost use Rattle.command_words.specs.Variant.{width_of, width_or_one};
+ghost use Rattle.command_words.specs.Reading.{option_of, widths_of};
+ghost use Rattle.command_words.specs.Widths.{widths_given};
 
-/// What the words after `variant` give: the least widths of offsets and of field ids, 1 to 4 bytes each.
-#[derive(Clone, Copy, Drop)]
-pub struct VariantWords {
-    pub offset_width: u8,
-    pub id_width: u8,
-    ghost offset_fits: { (1 ≤ offset_width) × (offset_width ≤ 4) },
-    ghost id_fits: { (1 ≤ id_width) × (id_width ≤ 4) },
-}
+use crate::arguments::OptionWord;
+use crate::numbers::NumberRange;
+use crate::settings::WidthWords;
 
-/// The width that a text is: a number from 1 to 4.
-fn width_of(text: &[u8]) -> Option<u8>
-    ensures found { Finds (λ width. width) result (width_of text.now) }
-    ensures fits { IfSome result (λ width. (1 ≤ width) × (width ≤ 4)) }
+/// The widths that may be given, in bytes.
+const WIDTHS: NumberRange = NumberRange {
+    least: 1,
+    most: 4,
+    default: 1,
+};
+
+/// The widths that options give, and 1 for each that isn't given.
+pub fn widths_given(options: &[OptionWord<'_>]) -> Option<WidthWords>
+    ensures { Finds widths_of result (widths_given (map option_of options.now)) }
 {
-    match text {
-        [digit] if b'1' <= *digit && *digit <= b'4' => Some(*digit - b'0'),
-        _ => None,
-    }
-}
-
-/// The width that an option's value is, or 1 where it isn't given.
-pub fn width_or_one(value: Option<&str>) -> Option<u8>
-    ensures found { Finds (λ width. width) result (width_or_one (option_map (λ v. v.now) value.entry)) }
-    ensures fits { IfSome result (λ width. (1 ≤ width) × (width ≤ 4)) }
-{
-    match value {
-        Some(text) => width_of(text.as_bytes()),
-        None => Some(1),
-    }
+    let offset_width = WIDTHS.number_given("--offset-width", options)?;
+    let id_width = WIDTHS.number_given("--id-width", options)?;
+    Some(WidthWords {
+        offset_width: offset_width as u8,
+        id_width: id_width as u8,
+    })
 }

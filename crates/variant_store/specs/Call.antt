@@ -3,7 +3,8 @@ use Rattle.std.specs.Prelude.{ℕ, List, [], ◌∷◌, codes, if◌then◌else�
 use Rattle.std.specs.Option.{option_map}
 use Rattle.std.specs.Str.{bytes_eq}
 use Rattle.command_words.specs.Scan.{Given, scan_words}
-use Rattle.command_words.specs.Variant.{WidthsGiven, variant_words}
+use Rattle.command_words.specs.Variant.{variant_words}
+use Rattle.command_words.specs.Widths.{WidthsGiven}
 
 -- a command, and what the words after its name give
 pub data Call : Type 0 where

@@ -1,6 +1,6 @@
 -- What a call can be asked to do.
 use Rattle.std.specs.Prelude.{◌≡◌, ℕ, List, Some}
-use Rattle.command_words.specs.declared.widths.VariantWords.{VariantWords}
+use Rattle.command_words.specs.declared.settings.WidthWords.{WidthWords}
 use Rattle.query_tree.specs.Asked.{query_of}
 use Rattle.variant_write.specs.declared.widths.Widths.{Widths}
 use Rattle.variant_store.specs.Call.{call_of}
@@ -23,7 +23,7 @@ abbrev pub AskFor : List (List ℕ) → Command → Type 0
 AskFor words (prints stream) = AskStream words stream
 
 -- the widths that words give
-abbrev pub widths_by : VariantWords → Widths
+abbrev pub widths_by : WidthWords → Widths
 widths_by words = record { offset = words.offset_width; id = words.id_width }
 
 -- the command that the code holds

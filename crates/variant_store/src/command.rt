@@ -10,7 +10,7 @@ ghost use Rattle.variant_store.specs.Command.{AskFor, command_of};
 ghost use Rattle.variant_store.specs.Words.{AskWrongly, Reads};
 
 use crate::words::{BadWords, WordsFault, asked_query};
-use command_words::{VariantWords, WordFault, scan_words, variant_words};
+use command_words::{WidthWords, WordFault, scan_words, variant_words};
 use path_query::Query;
 use std::alloc::Global;
 use vs_bytes::Text;
@@ -21,7 +21,7 @@ pub enum Command {
     /// To print a query's lines over the documents of the input.
     Scan(Query),
     /// To print each document of the input as a Variant, with numbers of at least these widths.
-    Variant(VariantWords),
+    Variant(WidthWords),
 }
 
 /// The scan that the words after `scan` ask for.
