@@ -1,0 +1,2 @@
+-- which statistics are accurate, and those that are built
+pub mod Accurate
