@@ -1,3 +1,4 @@
 pub mod Meeting
 pub mod Texts
 pub mod Trees
+pub mod ElementsBack

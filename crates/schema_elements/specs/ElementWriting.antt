@@ -29,6 +29,10 @@ is_integer member = int_eq member (pos 10)
 abbrev pub is_variant : ℤ → Bool
 is_variant member = int_eq member (pos 16)
 
+-- whether something may stand inside
+abbrev pub has_fields : ℤ → Bool
+has_fields member = is_decimal member || is_time member || is_integer member || is_variant member
+
 -- The fields, by their ids.
 
 unfoldable pub decimal_fields : Logical → Fields
@@ -108,7 +112,7 @@ pub record IsLogical (l : Logical) : Type 0 where
   pub time : is_time l.member ≡ true → Holds l IsFlag IsUnit
   pub integer : is_integer l.member ≡ true → Holds l IsI8 IsFlag
   pub variant : is_variant l.member ≡ true → Holds l IsI8 IsNone
-  pub plain : (is_decimal l.member || is_time l.member || is_integer l.member || is_variant l.member) ≡ false → Holds l IsNone IsNone
+  pub plain : has_fields l.member ≡ false → Holds l IsNone IsNone
 
 abbrev pub ElementFits : SchemaElement → Type 0
 ElementFits e = IfSome e.logical_type IsLogical

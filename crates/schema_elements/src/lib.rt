@@ -9,6 +9,7 @@
 mod element_writing;
 mod elements;
 mod entries;
+mod laws;
 mod logical_types;
 mod logical_writing;
 mod members;
@@ -17,6 +18,7 @@ mod unions;
 
 pub use elements::{ElementDraft, ElementList, ElementSlots, SchemaElement};
 pub use entries::{Flag, Small, Words};
+pub use laws::elements_read_back;
 pub use logical_types::{Logical, LogicalDraft};
 pub use members::{
     DecimalDraft, EmptyDraft, IntegerDraft, MemberSlots, TimeDraft, UnitDraft, VariantDraft,
