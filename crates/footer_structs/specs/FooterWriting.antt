@@ -1,11 +1,15 @@
 -- The fields of a footer's structs that are written, and the structs that can be written.
-use Rattle.std.specs.Prelude.{List, ℕ, if◌then◌else◌, ℤ, pos, IfSome}
+use Rattle.std.specs.Prelude.{◌≡◌, true, List, ℕ, ◌^◌, ◌<◌, length, if◌then◌else◌, ℤ, pos, IfSome}
+use Rattle.std.specs.List.{All}
 use Rattle.std.specs.Ordering.{int_eq}
 use Rattle.thrift_compact.specs.Trees.{Value, Fields, i32_value, i64_value, binary_value, struct_value, no_fields, with_field}
 use Rattle.thrift_compact.specs.Coded.{maybe, fields_coded}
 use Rattle.thrift_structs.specs.Listed.{list_tree, ListFits}
-use Rattle.thrift_structs.specs.ChunkWriting.{chunk_fields, ChunkFits}
-use Rattle.schema_elements.specs.ElementWriting.{element_tree, ElementFits}
+use Rattle.thrift_structs.specs.ChunkWriting.{chunk_fields, ChunkFits, IsI64Size, IsShort, ChunkReadsBack}
+use Rattle.schema_elements.specs.ElementWriting.{element_tree, ElementFits, ElementReadsBack}
+use Rattle.schema_elements.specs.FieldValues.{IsFlag}
+use Rattle.thrift_compact.specs.PageWriting.{IsI32}
+use Rattle.footer_structs.specs.ReadFooters.{fields_fit, rows_fit}
 use Rattle.thrift_structs.specs.declared.column_chunks.ChunkMeta.{ChunkMeta}
 use Rattle.footer_structs.specs.declared.row_groups.GroupMeta.{GroupMeta}
 use Rattle.footer_structs.specs.declared.file_metadata.FileMeta.{FileMeta}
@@ -63,3 +67,28 @@ pub record FileFits (m : FileMeta) : Type 0 where
   pub schema : ListFits ElementFits m.schema
   pub row_groups : ListFits GroupFits m.row_groups
   pub column_orders : IfSome m.column_orders (ListFits (λ order. Unit {0}))
+
+-- What reads back: the fields go together, the rows add up, no count, size or offset is negative, each number is in the
+-- range of its type, and bytes and lists are shorter than 2^32.
+
+pub record GroupReadsBack (g : GroupMeta) : Type 0 where
+  pub columns : length g.columns < 2 ^ 32
+  pub column : All ChunkReadsBack g.columns
+  pub total_byte_size : IsI64Size g.total_byte_size
+  pub num_rows : IsI64Size g.num_rows
+
+pub record OrdersReadBack (orders : List ℤ) : Type 0 where
+  pub size : length orders < 2 ^ 32
+  pub order : All IsFlag orders
+
+pub record FooterReadsBack (m : FileMeta) : Type 0 where
+  pub version : IsI32 m.version
+  pub schema : length m.schema < 2 ^ 32
+  pub element : All ElementReadsBack m.schema
+  pub num_rows : IsI64Size m.num_rows
+  pub row_groups : length m.row_groups < 2 ^ 32
+  pub group : All GroupReadsBack m.row_groups
+  pub created_by : IfSome m.created_by IsShort
+  pub column_orders : IfSome m.column_orders OrdersReadBack
+  pub fields : fields_fit m ≡ true
+  pub rows : rows_fit m ≡ true

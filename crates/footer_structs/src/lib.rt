@@ -13,10 +13,12 @@ mod column_orders;
 mod file_metadata;
 mod footer_reading;
 mod footer_writing;
+mod laws;
 mod row_groups;
 
 pub use column_orders::OrderDraft;
 pub use file_metadata::{FileDraft, FileMeta, FileSlots, GroupList};
 pub use footer_reading::read_footer;
 pub use footer_writing::{append_group, footer_len, write_footer};
+pub use laws::footers_read_back;
 pub use row_groups::{ChunkList, GroupDraft, GroupMeta, GroupSlots};
