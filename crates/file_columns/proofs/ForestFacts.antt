@@ -1,8 +1,8 @@
 -- A list of elements and its trees.
-use Rattle.std.proofs.Common.{◌≡◌, ◌∙◌, sym, ap, ap₂, refl, ℕ, zero, suc, List, [], ◌∷◌, ◌++◌, append_assoc}
+use Rattle.std.proofs.Common.{◌≡◌, ◌∙◌, sym, ap, ap₂, refl, ℕ, zero, suc, List, [], ◌∷◌, ◌++◌, append_assoc, true, ◌≤◌, ◌+◌, arith}
 use Rattle.std.proofs.lemmas.List.{append-nil}
 use Rattle.schema_elements.specs.declared.elements.SchemaElement.{SchemaElement}
-use Rattle.file_columns.specs.Elements.{child_count}
+use Rattle.schema_elements.specs.SchemaTrees.{child_count, are_trees}
 use Rattle.file_columns.specs.Forests.{Forest, no_trees, tree, flat, front, back, forest, tree_count, Tells}
 
 flat_front : (n : ℕ) (f : Forest) → flat (front n f) ++ flat (back n f) ≡ flat f
@@ -44,3 +44,48 @@ behind_none (tree e inside next) = ap (tree e inside) (behind_none next)
 -- and the elements of trees are read as these trees
 pub forest_flat : (f : Forest) → Tells f → forest (flat f) ≡ f
 forest_flat f h = ap forest (sym (append-nil (flat f))) ∙ forest_more f [] h ∙ behind_none f
+
+-- Lists that are one tree.
+
+front_count : (k : ℕ) (f : Forest) → k ≤ tree_count f → tree_count (front k f) ≡ k
+front_count zero f h = refl
+front_count (suc k) no_trees h = absurd (omega arith)
+front_count (suc k) (tree e inside next) h = ap suc (front_count k next (omega arith))
+
+back_count : (k : ℕ) (f : Forest) → k ≤ tree_count f → tree_count (back k f) + k ≡ tree_count f
+back_count zero f h = omega arith
+back_count (suc k) no_trees h = absurd (omega arith)
+back_count (suc k) (tree e inside next) h = omega (arith, back_count k next (omega arith))
+
+front_tells : (k : ℕ) (f : Forest) → Tells f → Tells (front k f)
+front_tells zero f h = tt
+front_tells (suc k) no_trees h = tt
+front_tells (suc k) (tree e inside next) h = (h.0, h.1, front_tells k next h.2)
+
+back_tells : (k : ℕ) (f : Forest) → Tells f → Tells (back k f)
+back_tells zero f h = h
+back_tells (suc k) no_trees h = tt
+back_tells (suc k) (tree e inside next) h = back_tells k next h.2
+
+pub record AreTrees (n : ℕ) (f : Forest) : Type 0 where
+  pub tell : Tells f
+  pub count : tree_count f ≡ n
+
+trees_are : (es : List SchemaElement) (n : ℕ) → are_trees n es ≡ true → AreTrees n (forest es)
+unfolding are_trees
+trees_are [] zero h = record { tell = tt; count = refl }
+trees_are [] (suc n) h = absurd (cc)
+trees_are (e ∷ es) zero h = absurd (cc)
+trees_are (e ∷ es) (suc n) h =
+    let all : AreTrees (child_count e + n) (forest es) = trees_are es (child_count e + n) h in
+    let enough : child_count e ≤ tree_count (forest es) = omega (arith, all.count) in
+    record {
+      tell = (front_count (child_count e) (forest es) enough, front_tells (child_count e) (forest es) all.tell, back_tells (child_count e) (forest es) all.tell);
+      count = omega (arith, all.count, back_count (child_count e) (forest es) enough);
+    }
+
+pub tree_tells : (es : List SchemaElement) → are_trees 1 es ≡ true → Tells (forest es)
+tree_tells es h = (trees_are es 1 h).tell
+
+pub tree_is_one : (es : List SchemaElement) → are_trees 1 es ≡ true → tree_count (forest es) ≡ 1
+tree_is_one es h = (trees_are es 1 h).count

@@ -3,8 +3,9 @@ use Rattle.std.proofs.Common.{◌≡◌, ◌∙◌, sym, ap, refl, cond, true, f
 use Rattle.std.specs.Prelude.{bytes_eq}
 use Rattle.std.proofs.lemmas.List.{append-nil}
 use Rattle.schema_elements.specs.declared.elements.SchemaElement.{SchemaElement}
-use Rattle.file_columns.specs.Elements.{child_count}
-use Rattle.file_columns.specs.Forests.{Forest, no_trees, tree, front, back, forest, own_leaf, leaf_count}
+use Rattle.schema_elements.specs.SchemaTrees.{child_count}
+use Rattle.schema_elements.specs.SchemaTrees.{own_leaf}
+use Rattle.file_columns.specs.Forests.{Forest, no_trees, tree, front, back, forest, leaf_count}
 use Rattle.file_columns.specs.Columns.{PlacedElement, children, named}
 
 -- the trees behind k trees and m more

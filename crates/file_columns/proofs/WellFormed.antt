@@ -23,7 +23,8 @@ use Rattle.shred_schema.specs.declared.nodes.Slot.TheVariants.{Absent, Required,
 use Rattle.schema_elements.specs.declared.elements.SchemaElement.{SchemaElement}
 use Rattle.file_columns.specs.declared.places.Levels.{Levels}
 use Rattle.file_columns.specs.declared.places.PlacedLeaf.{PlacedLeaf}
-use Rattle.file_columns.specs.Elements.{is_required, is_repeated, is_optional, is_leaf, is_list_note, note_of, type_of, prim_of}
+use Rattle.schema_elements.specs.SchemaTrees.{is_leaf}
+use Rattle.file_columns.specs.Elements.{is_required, is_repeated, is_optional, is_list_note, note_of, type_of, prim_of}
 use Rattle.file_columns.specs.Columns.{PlacedElement, children_in, name_of, names_of, named, past, placed, is_binary, slot_of, value_in, typed_in, is_bare, joined, parts_in, are_members, node_in, field_in, each_field, object_in, fields_in, list_in, element_in, items_in, group_in, metadata_in, with_metadata, top_in, column_in, ColumnView, column_view, judged, column_found, in_root, column_of, value_name, typed_name, metadata_name, top_levels, are_top_members}
 use Rattle.file_columns.specs.Forests.{forest}
 

@@ -8,6 +8,7 @@ use Rattle.shred_schema.specs.Kinds.{kind_read}
 use Rattle.shred_schema.specs.declared.kinds.Note.{Note}
 use Rattle.shred_schema.specs.declared.kinds.Note.TheVariants as note
 use Rattle.schema_elements.specs.declared.logical_types.Logical.{Logical}
+use Rattle.schema_elements.specs.SchemaTrees.{count_in}
 use Rattle.schema_elements.specs.declared.elements.SchemaElement.{SchemaElement}
 
 -- whether a field is there and has this number
@@ -25,20 +26,6 @@ is_optional e = is_at 1 e.repetition_type
 
 abbrev pub is_repeated : SchemaElement → Bool
 is_repeated e = is_at 2 e.repetition_type
-
--- a number that may be missing, as a count. A number below 0, which the reader of a footer refuses, is 0
-abbrev pub count_in : Option ℤ → ℕ
-count_in None = 0
-count_in (Some (pos n)) = n
-count_in (Some (negsuc n)) = 0
-
--- how many elements stand directly inside
-abbrev pub child_count : SchemaElement → ℕ
-child_count e = count_in e.num_children
-
--- a leaf has a type, and nothing stands inside it. Any other element is a group
-abbrev pub is_leaf : SchemaElement → Bool
-is_leaf e = is_some e.kind && (child_count e == 0)
 
 -- The physical type.
 

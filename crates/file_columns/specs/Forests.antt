@@ -2,7 +2,7 @@
 -- directly inside (parquet.thrift, "FileMetaData.schema": depth first). This is the tree that the list stands for.
 use Rattle.std.specs.Prelude.{◌≡◌, ℕ, zero, suc, ◌+◌, List, [], ◌∷◌, ◌++◌, cond}
 use Rattle.schema_elements.specs.declared.elements.SchemaElement.{SchemaElement}
-use Rattle.file_columns.specs.Elements.{child_count, is_leaf}
+use Rattle.schema_elements.specs.SchemaTrees.{child_count, own_leaf}
 
 -- trees in order: an element with the trees inside it, and the trees that follow
 pub data Forest : Type 0 where
@@ -34,9 +34,6 @@ forest [] = no_trees
 forest (e ∷ es) = planted e (forest es)
 
 -- how many leaves there are
-abbrev pub own_leaf : SchemaElement → ℕ
-own_leaf e = cond (is_leaf e) 1 0
-
 abbrev pub leaf_count : Forest → ℕ
 leaf_count no_trees = 0
 leaf_count (tree e inside next) = own_leaf e + leaf_count inside + leaf_count next

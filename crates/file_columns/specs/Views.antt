@@ -2,7 +2,7 @@
 use Rattle.shred_schema.specs.Views.{group_of}
 use Rattle.file_columns.specs.declared.places.Child.{Child}
 use Rattle.file_columns.specs.declared.columns.FileColumn.{FileColumn}
-use Rattle.file_columns.specs.Elements.{child_count}
+use Rattle.schema_elements.specs.SchemaTrees.{child_count}
 use Rattle.file_columns.specs.Forests.{front, forest}
 use Rattle.file_columns.specs.Columns.{PlacedElement, ColumnView}
 

@@ -3,10 +3,10 @@
 ghost use Rattle.std.specs.Prelude.{◌≡◌, ◌+◌, ◌<◌, ◌≤◌, ◌^◌, map, length, IfOk};
 ghost use Rattle.vs_bytes.specs.Outcome.{Finds};
 ghost use Rattle.file_columns.specs.Columns.{children, children_in, named, in_root};
-ghost use Rattle.file_columns.specs.Forests.{front, back, forest, own_leaf, leaf_count};
+ghost use Rattle.schema_elements.specs.SchemaTrees.{own_leaf};
+ghost use Rattle.file_columns.specs.Forests.{front, back, forest, leaf_count};
 ghost use Rattle.file_columns.specs.Views.{seen};
 
-use crate::elements::{child_count, is_leaf};
 use crate::places::Child;
 use schema_elements::SchemaElement;
 use std::alloc::Global;
@@ -16,7 +16,7 @@ fn own_leaf(element: &SchemaElement) -> usize
     ensures leaf { result ≡ own_leaf element.now }
     ensures most { result ≤ 1 }
 {
-    if is_leaf(element) { 1 } else { 0 }
+    if element.is_leaf() { 1 } else { 0 }
 }
 
 // Passes over the first trees: what follows them, and how many leaves they have.
@@ -34,7 +34,7 @@ fn pass(ahead: &[SchemaElement], count: u32) -> (&[SchemaElement], usize)
         if left == 0 {
             return (rest, leaves);
         }
-        left = left - 1 + u128::from(child_count(element));
+        left = left - 1 + u128::from(element.child_count());
         leaves += own_leaf(element);
         rest = behind;
     }
@@ -76,7 +76,7 @@ fn children<'a>(
 pub(crate) fn children_in<'a>(alloc: Global, child: &Child<'a>) -> Result<Vec<Child<'a>>, NoMemory>
     ensures { IfOk result (λ list. map seen list.items ≡ children_in (seen child.now)) }
 {
-    children(alloc, child.inside, child_count(child.element), child.place)
+    children(alloc, child.inside, child.element.child_count(), child.place)
 }
 
 /// The first of a name among the elements that stand directly inside a schema's root.
@@ -84,7 +84,7 @@ pub(crate) fn find_in_root<'a>(elements: &'a [SchemaElement], name: &str) -> Opt
     ensures { Finds seen result (named name.now (in_root (forest elements.now))) }
 {
     let (root, ahead) = elements.split_first()?;
-    find_child(ahead, child_count(root), name)
+    find_child(ahead, root.child_count(), name)
 }
 
 // The first of a name among the first trees.

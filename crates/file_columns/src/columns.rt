@@ -9,7 +9,7 @@ ghost use Rattle.file_columns.specs.Columns.{PlacedElement, top_in, column_in, c
 ghost use Rattle.file_columns.specs.Views.{seen, shown};
 
 use crate::children::{children_in, find_in_root};
-use crate::elements::{is_leaf, is_optional, is_required};
+use crate::elements::{is_optional, is_required};
 use crate::members::{are_top_members, one_leaf, read_metadata};
 use crate::nodes::read_parts;
 use crate::places::{Child, Levels, PlacedLeaf, past};
@@ -70,7 +70,7 @@ fn read_top(
 fn read_column(alloc: Global, child: &Child<'_>) -> Result<(Node, Vec<PlacedLeaf>), Refused<Absent>>
     ensures { Reads (λ r. (group_of r.0, r.1.items)) result (column_in (seen child.now)) }
 {
-    if is_leaf(child.element) {
+    if child.element.is_leaf() {
         return Err(Refused::Fault(Absent));
     }
     if !is_required(child.element) && !is_optional(child.element) {

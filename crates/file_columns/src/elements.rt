@@ -1,7 +1,8 @@
 //! What an element says of itself (parquet.thrift, SchemaElement).
 
 ghost use Rattle.std.specs.Prelude.{◌≡◌, ◌<◌, ◌^◌, true};
-ghost use Rattle.file_columns.specs.Elements.{is_at, is_required, is_optional, is_repeated, count_in, child_count, is_leaf, type_numbered, type_in, type_of, byte_in, truth_in, decimal_note, integer_note, time_note, stamp_note, logical_note, converted_note, note_in, note_of, is_list_note, prim_of};
+ghost use Rattle.schema_elements.specs.SchemaTrees.{count_in, child_count, is_leaf};
+ghost use Rattle.file_columns.specs.Elements.{is_at, is_required, is_optional, is_repeated, type_numbered, type_in, type_of, byte_in, truth_in, decimal_note, integer_note, time_note, stamp_note, logical_note, converted_note, note_in, note_of, is_list_note, prim_of};
 ghost use Rattle.file_columns.specs.Columns.{is_binary};
 
 use schema_elements::{Logical, SchemaElement};
@@ -67,26 +68,12 @@ fn count_in(field: Option<i32>) -> u32
     }
 }
 
-/// How many elements stand directly inside.
-pub(crate) fn child_count(element: &SchemaElement) -> u32
-    ensures count { result ≡ child_count element.now }
-    ensures fits { result < 2 ^ 31 }
-{
-    count_in(element.num_children)
-}
-
-pub(crate) fn is_leaf(element: &SchemaElement) -> bool
-    ensures { result ≡ is_leaf element.now }
-{
-    element.kind.is_some() && child_count(element) == 0
-}
-
 /// Whether it is a BYTE_ARRAY.
 #[tactic(auto, unfolding(crate::specs::Columns::is_binary))]
 pub(crate) fn is_binary(element: &SchemaElement) -> bool
     ensures { result ≡ is_binary element.now }
 {
-    is_leaf(element) && is_at(6, element.kind)
+    element.is_leaf() && is_at(6, element.kind)
 }
 
 fn type_numbered(len: u32, number: i32) -> Phys

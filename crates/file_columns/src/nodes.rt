@@ -11,7 +11,7 @@ ghost use Rattle.file_columns.specs.Columns.{named, typed_name, is_bare, typed_i
 ghost use Rattle.file_columns.specs.Views.{seen};
 
 use crate::children::children_in;
-use crate::elements::{is_leaf, is_list, is_optional, is_repeated, is_required, prim_of};
+use crate::elements::{is_list, is_optional, is_repeated, is_required, prim_of};
 use crate::members::{are_members, find_named, one_leaf, placed, read_value};
 use crate::names::names_repeat;
 use crate::places::{Child, Levels, PlacedLeaf, past};
@@ -87,7 +87,7 @@ fn read_typed_value(
     if !is_optional(child.element) {
         return Err(Refused::Fault(Absent));
     }
-    if !is_leaf(child.element) {
+    if !child.element.is_leaf() {
         return read_group(alloc, room, past(child.element, levels), child);
     }
     let prim = prim_of(child.element);
@@ -133,7 +133,7 @@ fn read_items(
     let [list] = children else {
         return Err(Refused::Fault(Absent));
     };
-    if !is_repeated(list.element) || is_leaf(list.element) {
+    if !is_repeated(list.element) || list.element.is_leaf() {
         return Err(Refused::Fault(Absent));
     }
     let inside = children_in(alloc, list)?;
@@ -180,7 +180,7 @@ fn read_field(
     if !is_required(child.element) {
         return Err(Refused::Fault(Absent));
     }
-    if is_leaf(child.element) {
+    if child.element.is_leaf() {
         return Err(Refused::Fault(Absent));
     }
     let children = children_in(alloc, child)?;
