@@ -1,0 +1,2 @@
+-- the columns whose rows are put together
+pub mod Columns

@@ -7,7 +7,7 @@ use Rattle.shred_schema.specs.Projection.{count_read, place, projected}
 use Rattle.shred_schema.specs.Ranges.{reads, none_read}
 use Rattle.shred_schema.specs.Views.{group_of}
 use Rattle.shred_schema.specs.declared.nodes.Node.{Node}
-use Rattle.shred_schema.proofs.LeafRanges.{among_high}
+use Rattle.shred_schema.proofs.LeafRanges.{among_from, among_high}
 use Rattle.shred_schema.proofs.NodeFacts.{height_most}
 use Rattle.shred_schema.proofs.Projected.{count_most, count_some, height_projected, leaves_projected, place_after, place_next, place_stays}
 use Rattle.row_assembler.specs.Assembly.{Assembly, place_in, is_there, IsFor}
@@ -125,3 +125,7 @@ new_for a o n mask optional meta node len some are count = record {
   count = count ∙ ap (count_read (reads mask) 0) len;
   some = some;
 }
+
+-- a leaf that the mask reads can be fed
+pub read_leaf : (a : Assembly) (o : Bool) (n : Group) (mask : List Bool) (j : ℕ) → IsFor a o n mask → j < 1 + width n → reads mask j ≡ true → is_there (slice_index_or a.places j None) ≡ true
+read_leaf a o n mask j f h read = ap is_there (f.places_are j (among_from j 0 (1 + width n) (omega arith) (omega (arith, h))) ∙ ap (λ (b : Bool). cond b (Some (place (reads mask) j)) None) read)
