@@ -1,0 +1,2 @@
+-- the column of records that violate rules
+pub mod Columns

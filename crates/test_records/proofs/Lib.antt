@@ -1,0 +1,2 @@
+-- what is known of schemas, documents and records
+pub mod Facts
