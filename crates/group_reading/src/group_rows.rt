@@ -1,0 +1,148 @@
+//! The rows of a group, one by one.
+
+ghost use Rattle.std.specs.Prelude.{◌≡◌, ℕ, ◌+◌, ◌^◌, ◌<◌, [], true, false, length, slice_index_or, Some, None, Ok, Err, IfOk, OnOk};
+ghost use Rattle.std.specs.Option.{option_map};
+ghost use Rattle.json_tree.specs.View.{view};
+ghost use Rattle.vs_bytes.specs.Outcome.{Makes};
+ghost use Rattle.shred_schema.specs.Groups.{width};
+ghost use Rattle.shred_schema.specs.Lawful.{IsWellFormed};
+ghost use Rattle.shred_schema.specs.Ranges.{is_among, reads, none_read};
+ghost use Rattle.shred_schema.specs.Views.{group_of};
+ghost use Rattle.row_assembler.specs.Assembly.{IsFor, Passes, has_row, left};
+ghost use Rattle.group_reading.specs.ChunkEntries.{has_rows};
+ghost use Rattle.group_reading.specs.GroupRows.{next_seen, rows_seen};
+ghost use Rattle.group_reading.specs.RowsAhead.{rows_ahead, StandsFor, FedLeaf, at_row, NextRow};
+
+use crate::group_faults::{GroupFault, PlaceInGroup};
+use json_tree::Tree;
+use row_assembler::Assembler;
+use shred_schema::{Column, Mask};
+use std::alloc::Global;
+use unshredder::unshred;
+use vs_bytes::{EntryList, NoMemory, Refusal, Refused, Sequence};
+
+/// The rows of a row group that are still to come.
+#[derive(Drop)]
+pub struct GroupRows {
+    assembler: Assembler,
+    row: u64,
+    left: u64,
+}
+
+// The next row, whose entries are there in each leaf that is read.
+fn next_row(
+    alloc: Global,
+    assembler: &mut Assembler,
+    column: &Column,
+    mask: &Mask,
+) -> Result<Option<Tree>, Refusal>
+    requires well { IsWellFormed (group_of column.now.node) }
+    requires column { IsFor assembler.old column.now.optional (group_of column.now.node) mask.now }
+    requires goes { assembler.old.stop ≡ None }
+    requires whole { has_row assembler.old (group_of column.now.node) mask.now ≡ true }
+    ensures exact { Makes (option_map view) result (next_seen (reads mask.now) column.now.optional (group_of column.now.node) (left assembler.old)) }
+    ensures column { IsFor assembler.new column.now.optional (group_of column.now.node) mask.now }
+    ensures passes { OnOk result (Passes assembler.old assembler.new (group_of column.now.node) mask.now) }
+{
+    match assembler.next_row(alloc) {
+        Ok(Some(row)) => unshred(alloc, column, &row, mask),
+        Ok(None) => unreachable!(),
+        Err(refusal) => Err(refusal),
+    }
+}
+
+// Feeds the entries of a leaf, where it is read.
+#[tactic(auto, using(crate::proofs::Feeding::read_leaf, crate::proofs::Feeding::fed_leaf, crate::proofs::Feeding::passed_leaf))]
+fn feed_leaf(
+    alloc: Global,
+    assembler: &mut Assembler,
+    column: &Column,
+    mask: &Mask,
+    leaf: usize,
+    entries: &mut EntryList,
+) -> Result<(), NoMemory>
+    requires column { IsFor assembler.old column.now.optional (group_of column.now.node) mask.now }
+    requires mask { length mask.now ≡ 1 + width (group_of column.now.node) }
+    requires leaf { leaf < 1 + width (group_of column.now.node) }
+    ensures column { IsFor assembler.new column.now.optional (group_of column.now.node) mask.now }
+    ensures fed { OnOk result (FedLeaf mask.now assembler.old assembler.new leaf entries.old) }
+{
+    let read = mask.as_slice()[leaf];
+    if read {
+        assembler.feed(alloc, leaf, entries)
+    } else {
+        Ok(())
+    }
+}
+
+// A rule that a row violates, with its place; or no memory.
+fn at_row(refusal: Refusal, row: u64) -> Refused<GroupFault>
+    ensures { result ≡ at_row refusal row }
+{
+    match refusal {
+        Refused::Fault(rule) => Refused::Fault(GroupFault {
+            rule,
+            place: PlaceInGroup::Row(row),
+        }),
+        Refused::NoMemory => Refused::NoMemory,
+    }
+}
+
+impl GroupRows {
+    /// The rows of a group of `rows` rows, by the entries of its leaves. Those of a leaf that isn't read are passed
+    /// over.
+    pub fn new(
+        alloc: Global,
+        column: &Column,
+        mask: &Mask,
+        rows: u64,
+        leaves: Sequence<EntryList>,
+    ) -> Result<GroupRows, NoMemory>
+        requires column { IsWellFormed (group_of column.now.node) }
+        requires mask { length mask.now ≡ 1 + width (group_of column.now.node) }
+        requires some { none_read (reads mask.now) 0 (1 + width (group_of column.now.node)) ≡ false }
+        requires leaves { length leaves ≡ 1 + width (group_of column.now.node) }
+        requires rows { (j : ℕ) → is_among j 0 (1 + width (group_of column.now.node)) ≡ true → reads mask.now j ≡ true → has_rows rows (slice_index_or leaves j []) ≡ true }
+        ensures stands { IfOk result (λ g. StandsFor column.now.optional (group_of column.now.node) mask.now g) }
+        ensures rows { IfOk result (λ g. rows_ahead (reads mask.now) column.now.optional (group_of column.now.node) g ≡ rows_seen (reads mask.now) column.now.optional (group_of column.now.node) rows 0 (λ j. slice_index_or leaves j [])) }
+    {
+        let mut leaves = leaves.into_vec();
+        let mut assembler = Assembler::new(alloc, column, mask)?;
+        for j in 0..leaves.len() {
+            feed_leaf(alloc, &mut assembler, column, mask, j, &mut leaves[j])?;
+        }
+        assembler.end();
+        Ok(GroupRows {
+            assembler,
+            row: 0,
+            left: rows,
+        })
+    }
+
+    /// The next row, or `None` after the last: `None` in it where the row is absent. Or the first rule that the row
+    /// violates, with its place; after that the rows aren't taken any more.
+    ///
+    /// The column and the mask are those that `new` was given.
+    pub fn next(
+        &mut self,
+        alloc: Global,
+        column: &Column,
+        mask: &Mask,
+    ) -> Result<Option<Option<Tree>>, Refused<GroupFault>>
+        requires well { IsWellFormed (group_of column.now.node) }
+        requires stands { StandsFor column.now.optional (group_of column.now.node) mask.now self.old }
+        ensures { NextRow column.now.optional (group_of column.now.node) mask.now self.old self.new result }
+    {
+        if self.left == 0 {
+            return Ok(None);
+        }
+        match next_row(alloc, &mut self.assembler, column, mask) {
+            Ok(row) => {
+                self.left -= 1;
+                self.row += 1;
+                Ok(Some(row))
+            }
+            Err(refusal) => Err(at_row(refusal, self.row)),
+        }
+    }
+}
