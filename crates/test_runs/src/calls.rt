@@ -3,6 +3,7 @@
 ghost use Rattle.std.specs.Prelude.{◌<◌, None};
 
 use outside::{MemSink, MemSource, Sink, SinkError};
+use shelf::MemShelf;
 use std::alloc::Global;
 use variant_store::{Word, vstore};
 use vs_bytes::{NoMemory, Text};
@@ -11,21 +12,24 @@ use vs_bytes::{NoMemory, Text};
 #[derive(Drop)]
 pub struct Outcome {
     pub status: u8,
+    pub shelf: MemShelf,
     pub source: MemSource,
     pub out: MemSink,
     pub err: MemSink,
 }
 
 /// Calls the program on these devices.
-pub fn call(
+pub fn call_on(
     alloc: Global,
     words: &[Word],
+    shelf: MemShelf,
     source: MemSource,
     out: MemSink,
     err: MemSink,
 ) -> Outcome {
     let mut outcome = Outcome {
         status: 0,
+        shelf,
         source,
         out,
         err,
@@ -33,11 +37,24 @@ pub fn call(
     outcome.status = vstore(
         alloc,
         words,
+        &mut outcome.shelf,
         &mut outcome.source,
         &mut outcome.out,
         &mut outcome.err,
     );
     outcome
+}
+
+/// Calls the program where there are no files.
+pub fn call(
+    alloc: Global,
+    words: &[Word],
+    source: MemSource,
+    out: MemSink,
+    err: MemSink,
+) -> Outcome {
+    let shelf = MemShelf::new(alloc, Vec::new(alloc));
+    call_on(alloc, words, shelf, source, out, err)
 }
 
 // A sink that has no memory for what is written to it.
@@ -57,7 +74,8 @@ pub fn call_full(alloc: Global, words: &[Word], input: &[u8]) -> Result<(u8, Mem
     let mut source = MemSource::new(Vec::from_slice(alloc, input)?, 64, Vec::new(alloc));
     let mut out = FullSink;
     let mut err = MemSink::new(alloc, Vec::new(alloc));
-    let status = vstore(alloc, words, &mut source, &mut out, &mut err);
+    let mut shelf = MemShelf::new(alloc, Vec::new(alloc));
+    let status = vstore(alloc, words, &mut shelf, &mut source, &mut out, &mut err);
     Ok((status, err))
 }
 

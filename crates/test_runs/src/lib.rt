@@ -9,5 +9,5 @@
 mod calls;
 mod checks;
 
-pub use calls::{Outcome, call, call_full, repeated, run, words_of};
+pub use calls::{Outcome, call, call_full, call_on, repeated, run, words_of};
 pub use checks::{Wrong, check, check_fault, check_piece, check_rows, split_row};

@@ -8,13 +8,13 @@ use Rattle.json_documents.specs.declared.faults.InputFault.TheVariants as why
 use Rattle.json_documents.specs.declared.faults.Stop.{Stop}
 use Rattle.json_documents.specs.declared.faults.Stop.TheVariants.{Input, Taker}
 use Rattle.json_documents.proofs.Walks.{walks_once}
-use Rattle.variant_store.proofs.AskedWords.{not_wrong}
-use Rattle.variant_store.specs.Command.{Command, prints, AskFor}
+use Rattle.variant_store.proofs.AskedCommands.{not_wrong}
+use Rattle.variant_store.specs.Commands.{Command, prints, AskFor}
 use Rattle.variant_store.specs.Ends.{stream_end}
 use Rattle.variant_store.specs.Stream.{Stream}
 use Rattle.variant_store.specs.Streaming.{Streams}
 use Rattle.variant_store.specs.Top.{Does, Runs, Ends, IsAdmitted, Completes}
-use Rattle.variant_store.specs.World.{World}
+use Rattle.variant_store.specs.World.{World, pipe_in}
 use Rattle.variant_store.specs.declared.gatherer.OutputFault.{OutputFault}
 use Rattle.variant_store.specs.declared.gatherer.OutputFault.TheVariants as output
 use Rattle.variant_store.specs.declared.command_error.CommandError.{CommandError}
@@ -29,7 +29,7 @@ seven status err err_now (inl h) = h.0
 seven status err err_now (inr h) = h.0
 
 -- no ending but the end of the input, and want of memory, is left
-completes_stream : (stream : Stream) (before after : World) (err err_now : Device) (status : ℕ) (end : Result (Unit {0}) (Stop OutputFault)) → Streams stream before after end → Ends (stream_end end) status err err_now
+completes_stream : (stream : Stream) (before after : World) (err err_now : Device) (status : ℕ) (end : Result (Unit {0}) (Stop OutputFault)) → Streams stream (pipe_in before) (pipe_in after) end → Ends (stream_end end) status err err_now
     → IsAdmitted (prints stream) before → (Fails before.input after.input → ⊥) → (Fails before.out after.out → ⊥) → (status ≡ 0) ⊎ (status ≡ 7)
 completes_stream stream before after err err_now status (Ok u) s e a no_read no_write = inl e.0
 completes_stream stream before after err err_now status (Err (Input (why.BadLine n fault))) s e a no_read no_write = let same = one_ending a.0 _ a.1 _ at_end (s.0.are_of a.0 a.2) a.3 in cc

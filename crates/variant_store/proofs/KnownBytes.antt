@@ -3,25 +3,29 @@ use Rattle.std.proofs.Common.{◌≡◌, ◌∙◌, ◌⊎◌, inl, inr, refl, s
 use Rattle.outside.specs.Devices.{Device}
 use Rattle.outside.specs.Memory.{Given, Taken, source_device, sink_device}
 use Rattle.outside.specs.declared.sink.SinkError.TheVariants as sink
+use Rattle.shelf.specs.Storage.{Storage}
 use Rattle.json_documents.specs.Documents.{at_end}
 use Rattle.json_documents.specs.declared.faults.InputFault.TheVariants as why
 use Rattle.json_documents.specs.declared.faults.Stop.{Stop}
 use Rattle.json_documents.specs.declared.faults.Stop.TheVariants.{Input, Taker}
-use Rattle.variant_store.specs.Command.{Command, prints, AskFor}
+use Rattle.variant_store.specs.Commands.{Command, prints, AskFor}
 use Rattle.variant_store.specs.Ends.{stream_end}
 use Rattle.variant_store.specs.InMemory.{Prints, IsNamed, StopsAtLine, StopsAtLimit}
 use Rattle.variant_store.specs.Report.{Reports, IsReported, status_of}
 use Rattle.variant_store.specs.Stream.{Stream}
 use Rattle.variant_store.specs.Streaming.{Streams}
 use Rattle.variant_store.specs.Top.{Does, Works, Runs, Ends, IsAnswer}
-use Rattle.variant_store.specs.World.{World, world_of}
+use Rattle.variant_store.specs.World.{World, Pipe, pipe_of, world_of}
 use Rattle.variant_store.specs.declared.gatherer.OutputFault.{OutputFault}
 use Rattle.variant_store.specs.declared.gatherer.OutputFault.TheVariants as output
 use Rattle.variant_store.specs.declared.command_error.CommandError.{CommandError}
 use Rattle.variant_store.specs.declared.command_error.CommandError.TheVariants as error
 
-abbrev in_memory : Given → Taken → World
-in_memory input out = world_of (source_device input) (sink_device out)
+abbrev in_memory : Storage → Given → Taken → World
+in_memory shelf input out = world_of shelf (source_device input) (sink_device out)
+
+abbrev piped : Given → Taken → Pipe
+piped input out = pipe_of (source_device input) (sink_device out)
 
 -- at status 0
 
@@ -31,7 +35,7 @@ pub record Whole (words : List (List ℕ)) (input left : Given) (out out_now : T
   pub has_printed : Prints stream input at_end out out_now
   pub at_end : left.left ≡ []
 
-whole_stream : (words : List (List ℕ)) (stream : Stream) (input left : Given) (out out_now : Taken) (end : Result (Unit {0}) (Stop OutputFault)) → AskFor words (prints stream) → Ok tt ≡ stream_end end → Streams stream (in_memory input out) (in_memory left out_now) end → Whole words input left out out_now
+whole_stream : (words : List (List ℕ)) (stream : Stream) (input left : Given) (out out_now : Taken) (end : Result (Unit {0}) (Stop OutputFault)) → AskFor words (prints stream) → Ok tt ≡ stream_end end → Streams stream (piped input out) (piped left out_now) end → Whole words input left out out_now
 whole_stream words stream input left out out_now (Ok u) ask e s =
     let gives = s.0.are_of input.left refl in
     let none = gives.1 in
@@ -39,19 +43,23 @@ whole_stream words stream input left out out_now (Ok u) ask e s =
 whole_stream words stream input left out out_now (Err (Input fault)) ask e s = cc
 whole_stream words stream input left out out_now (Err (Taker fault)) ask e s = cc
 
-pub whole : (words : List (List ℕ)) (input left : Given) (out out_now : Taken) → Works words (in_memory input out) (in_memory left out_now) (Ok tt) → Whole words input left out out_now
-whole words input left out out_now works = by works.command works.asked works.does
+pub whole : (words : List (List ℕ)) (shelf shelf_now : Storage) (input left : Given) (out out_now : Taken) → Works words (in_memory shelf input out) (in_memory shelf_now left out_now) (Ok tt) → Whole words input left out out_now
+whole words shelf shelf_now input left out out_now works = by works.command works.asked works.does
   where
-    by : (command : Command) → AskFor words command → Does command (in_memory input out) (in_memory left out_now) (Ok tt) → Whole words input left out out_now
+    by : (command : Command) → AskFor words command → Does command (in_memory shelf input out) (in_memory shelf_now left out_now) (Ok tt) → Whole words input left out out_now
     by (prints stream) ask does = whole_stream words stream input left out out_now does.0 ask does.1 does.2
 
 not_zero : (error : CommandError) → status_of error ≡ 0 → ⊥
 not_zero (error.BadWords bad) e = omega (arith, e)
 not_zero (error.BadLine n fault) e = omega (arith, e)
 not_zero error.InputTooLong e = omega (arith, e)
+not_zero error.FooterFull e = omega (arith, e)
+not_zero (error.BadFile file rule place) e = omega (arith, e)
 not_zero error.ReadFault e = omega (arith, e)
 not_zero error.WriteFault e = omega (arith, e)
 not_zero error.NoMemory e = omega (arith, e)
+not_zero (error.Absent file) e = omega (arith, e)
+not_zero error.Taken e = omega (arith, e)
 
 silent : (err err_now : Device) (status : ℕ) (done : Result (Unit {0}) CommandError) → status ≡ 0 → Ends done status err err_now → err_now ≡ err
 silent err err_now status (Ok u) zero_is e = e.1
@@ -77,7 +85,7 @@ reported error status err err_now three (inr h) = let seven = h.0 in absurd (ome
 abbrev StopsAt : Stream → Given → Taken → Taken → Taken → Taken → Type 0
 StopsAt stream input out out_now err err_now = StopsAtLine stream input out out_now err err_now ⊎ StopsAtLimit stream input out out_now err err_now
 
-stopped : (stream : Stream) (input left : Given) (out out_now err err_now : Taken) (status : ℕ) (end : Result (Unit {0}) (Stop OutputFault)) → status ≡ 3 → Streams stream (in_memory input out) (in_memory left out_now) end
+stopped : (stream : Stream) (input left : Given) (out out_now err err_now : Taken) (status : ℕ) (end : Result (Unit {0}) (Stop OutputFault)) → status ≡ 3 → Streams stream (piped input out) (piped left out_now) end
     → Ends (stream_end end) status (sink_device err) (sink_device err_now) → StopsAt stream input out out_now err err_now
 stopped stream input left out out_now err err_now status (Ok u) three s e = let zero_is = e.0 in absurd (omega (arith, zero_is, three))
 stopped stream input left out out_now err err_now status (Err (Input (why.BadLine n fault))) three s e =
@@ -95,17 +103,17 @@ stopped stream input left out out_now err err_now status (Err (Taker (output.Wri
 abbrev StopsSo : List (List ℕ) → Given → Taken → Taken → Taken → Taken → Type 0
 StopsSo words input out out_now err err_now = (stream : Stream) × AskFor words (prints stream) × StopsAt stream input out out_now err err_now
 
-pub stops : (words : List (List ℕ)) (input left : Given) (out out_now err err_now : Taken) (status : ℕ) → status ≡ 3 → IsAnswer words (in_memory input out) (in_memory left out_now) (sink_device err) (sink_device err_now) status
+pub stops : (words : List (List ℕ)) (shelf shelf_now : Storage) (input left : Given) (out out_now err err_now : Taken) (status : ℕ) → status ≡ 3 → IsAnswer words (in_memory shelf input out) (in_memory shelf_now left out_now) (sink_device err) (sink_device err_now) status
     → StopsSo words input out out_now err err_now
-stops words input left out out_now err err_now status three a = by a.runs
+stops words shelf shelf_now input left out out_now err err_now status three a = by a.runs
   where
     ended : (done : Result (Unit {0}) CommandError) → a.done ≡ done → Ends done status (sink_device err) (sink_device err_now)
     ended done e = subst (λ (d : Result (Unit {0}) CommandError). Ends d status (sink_device err) (sink_device err_now)) e a.ends
 
-    by_command : (command : Command) → AskFor words command → Does command (in_memory input out) (in_memory left out_now) a.done → StopsSo words input out out_now err err_now
+    by_command : (command : Command) → AskFor words command → Does command (in_memory shelf input out) (in_memory shelf_now left out_now) a.done → StopsSo words input out out_now err err_now
     by_command (prints stream) ask does = (stream, ask, stopped stream input left out out_now err err_now status does.0 three does.2 (ended (stream_end does.0) does.1))
 
-    by : Runs words (in_memory input out) (in_memory left out_now) a.done → StopsSo words input out out_now err err_now
+    by : Runs words (in_memory shelf input out) (in_memory shelf_now left out_now) a.done → StopsSo words input out out_now err err_now
     by (inl works) = by_command works.command works.asked works.does
     by (inr (inl refused)) = let told = (reported (error.BadWords refused.bad) status (sink_device err) (sink_device err_now) three (ended (Err (error.BadWords refused.bad)) refused.answer_is)).0 in absurd (omega (arith, told))
     by (inr (inr lacking)) = let told = (reported error.NoMemory status (sink_device err) (sink_device err_now) three (ended (Err error.NoMemory) lacking.answer_is)).0 in absurd (omega (arith, told))

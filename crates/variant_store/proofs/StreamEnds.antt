@@ -15,7 +15,7 @@ use Rattle.variant_store.specs.Answer.{answer_over}
 use Rattle.variant_store.specs.Gathering.{Gathers, GathersUpTo}
 use Rattle.variant_store.specs.Stream.{Stream}
 use Rattle.variant_store.specs.Streaming.{AnswersPart, Streams}
-use Rattle.variant_store.specs.World.{world_of}
+use Rattle.variant_store.specs.World.{pipe_of}
 use Rattle.variant_store.specs.declared.gatherer.OutputFault.TheVariants as output
 
 -- what is given of an input are first documents of it
@@ -43,11 +43,11 @@ faulted_later i j why.NoMemory calm = calm_later i j calm
 
 -- a prefix of what was gathered of first documents is written
 cut_short : (stream : Stream) (i j : Device) (a b c : Output) (documents : List Json) (fault : SinkError) → a.pending ≡ [] → Sends a b (answer_over stream documents) → OfInput i.bytes (λ input. Begins input documents) → Breaks b c [] fault
-    → i.faults ≤ j.faults → Streams stream (world_of i a.device) (world_of j c.device) (Err (Taker (output.Write fault)))
+    → i.faults ≤ j.faults → Streams stream (pipe_of i a.device) (pipe_of j c.device) (Err (Taker (output.Write fault)))
 cut_short stream i j a b c documents fault empty sends first broken later =
     let answer = answer_over stream documents in
     let part : Breaks a c (answer ++ []) fault = sends_breaks a b c answer [] fault sends broken in
-    let answers_part : AnswersPart stream (world_of i a.device) (world_of j c.device) = record {
+    let answers_part : AnswersPart stream (pipe_of i a.device) (pipe_of j c.device) = record {
       documents = documents;
       are_first = first;
       answers = subst (λ (s : List ℕ). AppendsPrefix a.device.bytes c.device.bytes s) (append-nil answer) (subst (λ (p : List ℕ). AppendsPrefix a.device.bytes c.device.bytes (p ++ (answer ++ []))) empty part.part);
@@ -56,7 +56,7 @@ cut_short stream i j a b c documents fault empty sends first broken later =
 
 -- after the walk has ended at the input
 pub stream_cut : (stream stream_now : Stream) (i j : Device) (a b c : Output) (fault : SinkError) (AreOf : List ℕ → List Json → Type 0) → a.pending ≡ [] → TookAll (λ ds. Gathers stream stream_now a b ds) i.bytes AreOf
-    → ((input : List ℕ) (ds : List Json) → AreOf input ds → Begins input ds) → Breaks b c [] fault → i.faults ≤ j.faults → Streams stream (world_of i a.device) (world_of j c.device) (Err (Taker (output.Write fault)))
+    → ((input : List ℕ) (ds : List Json) → AreOf input ds → Begins input ds) → Breaks b c [] fault → i.faults ≤ j.faults → Streams stream (pipe_of i a.device) (pipe_of j c.device) (Err (Taker (output.Write fault)))
 stream_cut stream stream_now i j a b c fault AreOf empty took begins broken later = cut_short stream i j a b c took.documents fault empty took.took.sends (λ input known. begins input took.documents (took.known input known)) broken later
 
 begins_less : (input : List ℕ) (documents : List Json) (document : Json) → Begins input (documents ++ document ∷ []) → Begins input documents
@@ -66,6 +66,6 @@ abbrev Lacks : Stream → Device → Output → Output → Type 0
 Lacks stream i a b = TookSome (λ documents document fault. GathersUpTo stream a b documents document fault) i.bytes output.NoMemory
 
 -- after there was no memory to print a document
-pub unprinted_cut : (stream : Stream) (i j : Device) (a b c : Output) (fault : SinkError) → a.pending ≡ [] → Lacks stream i a b → Breaks b c [] fault → IsCalm i j → Streams stream (world_of i a.device) (world_of j c.device) (Err (Taker (output.Write fault)))
+pub unprinted_cut : (stream : Stream) (i j : Device) (a b c : Output) (fault : SinkError) → a.pending ≡ [] → Lacks stream i a b → Breaks b c [] fault → IsCalm i j → Streams stream (pipe_of i a.device) (pipe_of j c.device) (Err (Taker (output.Write fault)))
 unprinted_cut stream i j a b c fault empty lacks broken calm =
     cut_short stream i j a b c lacks.documents fault empty lacks.refused (λ input known. begins_less input lacks.documents lacks.document (lacks.known input known)) broken (calm_later i j calm)

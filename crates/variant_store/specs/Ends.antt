@@ -7,8 +7,8 @@ use Rattle.json_documents.specs.declared.faults.Stop.{Stop}
 use Rattle.json_documents.specs.declared.faults.Stop.TheVariants.{Input, Taker}
 use Rattle.variant_store.specs.declared.gatherer.OutputFault.{OutputFault}
 use Rattle.variant_store.specs.declared.gatherer.OutputFault.TheVariants as output
-use Rattle.variant_store.specs.declared.words.WordsFault.{WordsFault}
-use Rattle.variant_store.specs.declared.words.WordsFault.TheVariants as words
+use Rattle.command_parsing.specs.declared.fault.WordsFault.{WordsFault}
+use Rattle.command_parsing.specs.declared.fault.WordsFault.TheVariants as words
 use Rattle.variant_store.specs.declared.command_error.CommandError.{CommandError}
 use Rattle.variant_store.specs.declared.command_error.CommandError.TheVariants.{BadWords, BadLine, InputTooLong, ReadFault, WriteFault, NoMemory}
 

@@ -1,7 +1,6 @@
 pub mod Answer
 pub mod Beginning
-pub mod Call
-pub mod Command
+pub mod Commands
 pub mod Ends
 pub mod Gathering
 pub mod InMemory
@@ -9,5 +8,4 @@ pub mod Report
 pub mod Stream
 pub mod Streaming
 pub mod Top
-pub mod Words
 pub mod World

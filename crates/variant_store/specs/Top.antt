@@ -4,20 +4,19 @@ use Rattle.outside.specs.Devices.{Device, Fails}
 use Rattle.json_tree.specs.Json.{Json}
 use Rattle.json_documents.specs.Documents.{at_end, HasDocuments}
 use Rattle.json_documents.specs.declared.faults.Stop.{Stop}
-use Rattle.variant_store.specs.Words.{AskWrongly}
-use Rattle.variant_store.specs.Command.{Command, prints, AskFor}
-use Rattle.variant_store.specs.World.{World}
+use Rattle.command_parsing.specs.declared.fault.BadWords.{BadWords}
+use Rattle.variant_store.specs.Commands.{Command, prints, AskFor, AskWrongly}
+use Rattle.variant_store.specs.World.{World, pipe_in}
 use Rattle.variant_store.specs.Streaming.{Streams}
 use Rattle.variant_store.specs.Ends.{stream_end}
 use Rattle.variant_store.specs.Report.{IsReported}
 use Rattle.variant_store.specs.declared.gatherer.OutputFault.{OutputFault}
-use Rattle.variant_store.specs.declared.words.BadWords.{BadWords}
 use Rattle.variant_store.specs.declared.command_error.CommandError.{CommandError}
 use Rattle.variant_store.specs.declared.command_error.CommandError.TheVariants as error
 
 -- what a command does, by how the call ends
 abbrev pub Does : Command → World → World → Result (Unit {0}) CommandError → Type 0
-Does (prints stream) before after done = (end : Result (Unit {0}) (Stop OutputFault)) × (done ≡ stream_end end) × Streams stream before after end
+Does (prints stream) before after done = (end : Result (Unit {0}) (Stop OutputFault)) × (done ≡ stream_end end) × Streams stream (pipe_in before) (pipe_in after) end × (after.shelf ≡ before.shelf)
 
 -- the words ask for a command, and it was done so
 pub record Works (words : List (List ℕ)) (before after : World) (done : Result (Unit {0}) CommandError) : Type 0 where

@@ -1,13 +1,26 @@
 -- What a call of the program is handed, beside its words and its error output.
 use Rattle.outside.specs.Devices.{Device, IsCalm}
+use Rattle.shelf.specs.Storage.{Storage}
 
 pub record World : Type 0 where
+  pub shelf : Storage
   pub input : Device
   pub out : Device
 
-abbrev pub world_of : Device → Device → World
-world_of input out = record { input = input; out = out }
+abbrev pub world_of : Storage → Device → Device → World
+world_of shelf input out = record { shelf = shelf; input = input; out = out }
+
+-- what a command is handed that reads the input and prints
+pub record Pipe : Type 0 where
+  pub input : Device
+  pub out : Device
+
+abbrev pub pipe_of : Device → Device → Pipe
+pipe_of input out = record { input = input; out = out }
+
+abbrev pub pipe_in : World → Pipe
+pipe_in world = pipe_of world.input world.out
 
 -- no device failed
-abbrev pub AreCalm : World → World → Type 0
+abbrev pub AreCalm : Pipe → Pipe → Type 0
 AreCalm before after = IsCalm before.input after.input × IsCalm before.out after.out

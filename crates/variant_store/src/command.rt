@@ -1,19 +1,20 @@
 //! The command that words ask for.
 
-ghost use Rattle.std.specs.Prelude.{◌≡◌, ℕ, List};
-ghost use Rattle.std.specs.Option.{option_map};
-ghost use Rattle.command_words.specs.Scan.{scan_words};
-ghost use Rattle.command_words.specs.Variant.{variant_words};
-ghost use Rattle.variant_store.specs.Call.{call_of};
-ghost use Rattle.variant_store.specs.Call as call;
-ghost use Rattle.variant_store.specs.Command.{AskFor, command_of};
-ghost use Rattle.variant_store.specs.Words.{AskWrongly, Reads};
+ghost use Rattle.std.specs.Prelude.{◌≡◌};
+ghost use Rattle.command_parsing.specs.Asking.{Reads};
+ghost use Rattle.variant_store.specs.Commands.{AskFor, AskWrongly, command_of, named};
 
-use crate::words::{BadWords, WordsFault, asked_query};
-use command_words::{WidthWords, WordFault, scan_words, variant_words};
+use command_parsing::{BadWords, WidthWords, WordsFault, asked_scan, asked_variant};
 use path_query::Query;
 use std::alloc::Global;
 use vs_bytes::Text;
+
+/// The name of a command.
+#[derive(Clone, Copy, PartialEq, Eq, Debug, Drop)]
+pub enum Name {
+    Scan,
+    Variant,
+}
 
 /// What a call is asked to do.
 #[derive(Drop)]
@@ -24,28 +25,16 @@ pub enum Command {
     Variant(WidthWords),
 }
 
-/// The scan that the words after `scan` ask for.
-fn asked_scan(alloc: Global, words: &[Text]) -> Result<Command, WordsFault>
-    ensures { (all : List (List ℕ)) → call_of all ≡ option_map call.scan (scan_words words.now) → Reads (λ command. AskFor all (command_of command)) (AskWrongly all) result }
+/// The command that a word names.
+fn named(word: &[u8]) -> Option<Name>
+    ensures { result ≡ named word.now }
 {
-    match scan_words(alloc, words) {
-        Ok(given) => match asked_query(alloc, &given) {
-            Ok(query) => Ok(Command::Scan(query)),
-            Err(fault) => Err(fault),
-        },
-        Err(WordFault::Usage) => Err(WordsFault::Wrong(BadWords::Usage)),
-        Err(WordFault::NoMemory) => Err(WordsFault::NoMemory),
-    }
-}
-
-/// The widths that the words after `variant` ask for.
-fn asked_variant(alloc: Global, words: &[Text]) -> Result<Command, WordsFault>
-    ensures { (all : List (List ℕ)) → call_of all ≡ option_map call.variant (variant_words words.now) → Reads (λ command. AskFor all (command_of command)) (AskWrongly all) result }
-{
-    match variant_words(alloc, words) {
-        Ok(given) => Ok(Command::Variant(given)),
-        Err(WordFault::Usage) => Err(WordsFault::Wrong(BadWords::Usage)),
-        Err(WordFault::NoMemory) => Err(WordsFault::NoMemory),
+    if word == b"scan".as_slice() {
+        Some(Name::Scan)
+    } else if word == b"variant".as_slice() {
+        Some(Name::Variant)
+    } else {
+        None
     }
 }
 
@@ -53,14 +42,18 @@ fn asked_variant(alloc: Global, words: &[Text]) -> Result<Command, WordsFault>
 pub fn asked_command(alloc: Global, words: &[Text]) -> Result<Command, WordsFault>
     ensures { Reads (λ command. AskFor words.now (command_of command)) (AskWrongly words.now) result }
 {
-    let Some((name, others)) = words.split_first() else {
+    let [word, others @ ..] = words else {
         return Err(WordsFault::Wrong(BadWords::Usage));
     };
-    if name.as_bytes() == b"scan".as_slice() {
-        return asked_scan(alloc, others);
+    match named(word.as_bytes()) {
+        Some(Name::Scan) => match asked_scan(alloc, others) {
+            Ok(query) => Ok(Command::Scan(query)),
+            Err(fault) => Err(fault),
+        },
+        Some(Name::Variant) => match asked_variant(alloc, others) {
+            Ok(widths) => Ok(Command::Variant(widths)),
+            Err(fault) => Err(fault),
+        },
+        None => Err(WordsFault::Wrong(BadWords::Usage)),
     }
-    if name.as_bytes() == b"variant".as_slice() {
-        return asked_variant(alloc, others);
-    }
-    Err(WordsFault::Wrong(BadWords::Usage))
 }

@@ -5,10 +5,12 @@ ghost use Rattle.variant_store.specs.Ends.{words_error, input_error, output_erro
 ghost use Rattle.variant_store.specs.Report.{status_of, message_of, IsReported};
 
 use crate::gatherer::OutputFault;
-use crate::words::{BadWords, WordsFault};
+use crate::place::Place;
+use command_parsing::{BadWords, WordsFault};
 use json_documents::{DocFault, InputFault, Stop};
 use outside::{Sink, SinkError, write_all};
 use std::alloc::{AllocError, Global};
+use vs_bytes::Rule;
 
 /// Why a call ends with another status than 0.
 #[derive(Clone, Copy, PartialEq, Eq, Debug, Drop)]
@@ -19,12 +21,20 @@ pub enum CommandError {
     BadLine { line: u64, fault: DocFault },
     /// The input has more than 2^40 bytes.
     InputTooLong,
+    /// The footer of the file that is written would be longer than its limit.
+    FooterFull,
+    /// A file violates a rule. Files are counted from 1 in the words' order.
+    BadFile { file: u32, rule: Rule, place: Place },
     /// A read failed.
     ReadFault,
-    /// A write to the output failed.
+    /// A write failed.
     WriteFault,
     /// An allocation was refused.
     NoMemory,
+    /// There is no file of the name. Files are counted from 1 in the words' order.
+    Absent { file: u32 },
+    /// There is a file already of the name under which one is to be written.
+    Taken,
 }
 
 /// How a call ends whose words gave no command.
@@ -76,6 +86,7 @@ fn bad_words_message(alloc: Global, fault: BadWords) -> Result<String, AllocErro
 {
     match fault {
         BadWords::Usage => String::from_str(alloc, "vstore: usage\n"),
+        BadWords::BadSchema => String::from_str(alloc, "vstore: bad schema\n"),
         BadWords::BadFilter => String::from_str(alloc, "vstore: bad filter\n"),
         BadWords::BadOrder => String::from_str(alloc, "vstore: bad order\n"),
         BadWords::BadPath => String::from_str(alloc, "vstore: bad path\n"),
@@ -93,6 +104,29 @@ fn bad_line_message(alloc: Global, line: u64, fault: DocFault) -> Result<String,
     Ok(message)
 }
 
+/// The line for a file that violates a rule.
+fn bad_file_message(
+    alloc: Global,
+    file: u32,
+    rule: Rule,
+    place: Place,
+) -> Result<String, AllocError>
+    ensures { IfOk result (λ message. string_bytes message ≡ message_of (CommandError.BadFile file rule place)) }
+{
+    let mut message = format!(in alloc; "vstore: file {file}: ")?;
+    message.push_str(rule.name())?;
+    message.push_str(place.text(alloc)?.as_str())?;
+    message.push_str("\n")?;
+    Ok(message)
+}
+
+/// The line for a file that isn't there.
+fn absent_message(alloc: Global, file: u32) -> Result<String, AllocError>
+    ensures { IfOk result (λ message. string_bytes message ≡ message_of (CommandError.Absent file)) }
+{
+    format!(in alloc; "vstore: absent file {file}\n")
+}
+
 impl CommandError {
     /// The status that the program ends with.
     pub fn status(self) -> u8
@@ -100,10 +134,14 @@ impl CommandError {
     {
         match self {
             CommandError::BadWords(_) => 2,
-            CommandError::BadLine { .. } | CommandError::InputTooLong => 3,
+            CommandError::BadLine { .. } | CommandError::InputTooLong | CommandError::FooterFull =>
+                3,
+            CommandError::BadFile { .. } => 4,
             CommandError::ReadFault => 5,
             CommandError::WriteFault => 6,
             CommandError::NoMemory => 7,
+            CommandError::Absent { .. } => 8,
+            CommandError::Taken => 9,
         }
     }
 
@@ -115,9 +153,15 @@ impl CommandError {
             CommandError::BadWords(fault) => bad_words_message(alloc, fault),
             CommandError::BadLine { line, fault } => bad_line_message(alloc, line, fault),
             CommandError::InputTooLong => String::from_str(alloc, "vstore: input too long\n"),
+            CommandError::FooterFull => String::from_str(alloc, "vstore: footer full\n"),
+            CommandError::BadFile { file, rule, place } => {
+                bad_file_message(alloc, file, rule, place)
+            }
             CommandError::ReadFault => String::from_str(alloc, "vstore: read fault\n"),
             CommandError::WriteFault => String::from_str(alloc, "vstore: write fault\n"),
             CommandError::NoMemory => String::from_str(alloc, "vstore: no memory\n"),
+            CommandError::Absent { file } => absent_message(alloc, file),
+            CommandError::Taken => String::from_str(alloc, "vstore: taken\n"),
         }
     }
 

@@ -1,4 +1,4 @@
-//! The top call: the words of a command to a status, over any source and sinks, and what `scan` and `variant`
+//! The top call: the words of a command to a status, over any shelf, source and sinks, and what `scan` and `variant`
 //! print of a document.
 //!
 //! | Module | What it holds |
@@ -6,12 +6,12 @@
 //! | `top` | `vstore`: words in, a status out |
 //! | `in_memory` | `vstore_in_memory`: the same over objects in memory, said in bytes |
 //! | `command` | `Command`: what words ask for |
-//! | `words` | what is wrong with words; the query of a filter's text and paths' texts |
 //! | `printer` | `Printer`: what a command prints of each document |
 //! | `query_printer` | for `scan`: the line of a query |
 //! | `variant_printer` | for `variant`: the bytes of a Variant in hex |
 //! | `gatherer` | `Gatherer`: what is printed, gathered document by document |
 //! | `stream` | what is printed of all documents of an input |
+//! | `place` | `Place`: where in a file a rule is violated |
 //! | `command_error` | `CommandError`: why a call ends with another status than 0, with its line |
 #![tactic(auto)]
 
@@ -19,12 +19,12 @@ mod command;
 mod command_error;
 mod gatherer;
 mod in_memory;
+mod place;
 mod printer;
 mod query_printer;
 mod stream;
 mod top;
 mod variant_printer;
-mod words;
 
 pub use in_memory::vstore_in_memory;
 pub use top::{Word, vstore};

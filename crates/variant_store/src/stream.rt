@@ -1,7 +1,7 @@
 //! Commands that print something of each document of their input.
 
 ghost use Rattle.json_documents.specs.Input.{OfInput, IsWithinLimit};
-ghost use Rattle.variant_store.specs.World.{world_of};
+ghost use Rattle.variant_store.specs.World.{pipe_of};
 ghost use Rattle.variant_store.specs.Streaming.{Streams};
 
 use crate::gatherer::{Gatherer, OutputFault};
@@ -23,7 +23,7 @@ pub fn stream<P: Printer, I: Source, O: Sink>(
     input: &mut I,
     out: &mut O,
 ) -> Result<(), Stop<OutputFault>>
-    ensures streams { Streams (P.stream printer) (world_of (I.seen input.old) (O.seen out.old)) (world_of (I.seen input.new) (O.seen out.new)) result }
+    ensures streams { Streams (P.stream printer) (pipe_of (I.seen input.old) (O.seen out.old)) (pipe_of (I.seen input.new) (O.seen out.new)) result }
     ensures bounded { OfInput (I.seen input.old).bytes (λ bytes. IsWithinLimit bytes (I.seen input.new).bytes) }
 {
     let mut gatherer = Gatherer {

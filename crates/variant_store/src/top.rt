@@ -1,10 +1,12 @@
 //! The top call: words in, a status out.
 
-ghost use Rattle.std.specs.Prelude.{◌≡◌, Ok, Err};
+ghost use Rattle.std.specs.Prelude.{◌≡◌, ℕ, List, Ok, Err};
 ghost use Rattle.json_documents.specs.Input.{OfInput, IsWithinLimit};
 ghost use Rattle.variant_store.specs.World.{world_of};
 ghost use Rattle.variant_store.specs.Top.{Runs, Works, IsAnswer, Completes};
-ghost use Rattle.variant_store.specs.declared.words.BadWords.{BadWords};
+ghost use Rattle.command_parsing.specs.declared.fault.BadWords.{BadWords};
+ghost use Rattle.variant_store.specs.Commands.{prints, AskFor};
+ghost use Rattle.variant_store.specs.Stream.{Stream};
 ghost use Rattle.variant_store.specs.declared.command_error.CommandError.TheVariants as error;
 
 use crate::command::{Command, asked_command};
@@ -13,6 +15,7 @@ use crate::query_printer::QueryPrinter;
 use crate::stream::stream;
 use crate::variant_printer::VariantPrinter;
 use outside::{Sink, Source};
+use shelf::Shelf;
 use std::alloc::Global;
 use variant_write::Widths;
 use vs_bytes::Text;
@@ -20,15 +23,17 @@ use vs_bytes::Text;
 /// A word of a call; the program's own name is none.
 pub type Word = Text;
 
-fn run<I: Source, O: Sink>(
+fn run<S: Shelf, I: Source, O: Sink>(
     alloc: Global,
     words: &[Word],
+    shelf: &mut S,
     input: &mut I,
     out: &mut O,
 ) -> Result<(), CommandError>
-    ensures runs { Runs words.now (world_of (I.seen input.old) (O.seen out.old)) (world_of (I.seen input.new) (O.seen out.new)) result }
+    ensures runs { Runs words.now (world_of (S.seen shelf.old) (I.seen input.old) (O.seen out.old)) (world_of (S.seen shelf.new) (I.seen input.new) (O.seen out.new)) result }
     ensures bounded { OfInput (I.seen input.old).bytes (λ bytes. IsWithinLimit bytes (I.seen input.new).bytes) }
-    ensures untouched { (bad : BadWords) → result ≡ Err (error.BadWords bad) → (input.new ≡ input.old) × (out.new ≡ out.old) }
+    ensures beside { (stream : Stream) → AskFor words.now (prints stream) → shelf.new ≡ shelf.old }
+    ensures untouched { (bad : BadWords) → result ≡ Err (error.BadWords bad) → (shelf.new ≡ shelf.old) × (input.new ≡ input.old) × (out.new ≡ out.old) }
 {
     match asked_command(alloc, words) {
         Ok(Command::Scan(query)) => {
@@ -64,20 +69,22 @@ fn run<I: Source, O: Sink>(
 /// | 7 | `vstore: no memory` | there was no memory for something; what `out` gained is a prefix of the answer |
 ///
 /// A fault of `err` changes no status; where there is no memory for its line the status is 7.
-pub fn vstore<I: Source, O: Sink, E: Sink>(
+pub fn vstore<S: Shelf, I: Source, O: Sink, E: Sink>(
     alloc: Global,
     words: &[Word],
+    shelf: &mut S,
     input: &mut I,
     out: &mut O,
     err: &mut E,
 ) -> u8
-    ensures answer { IsAnswer words.now (world_of (I.seen input.old) (O.seen out.old)) (world_of (I.seen input.new) (O.seen out.new)) (E.seen err.old) (E.seen err.new) result }
-    ensures zero { result ≡ 0 → Works words.now (world_of (I.seen input.old) (O.seen out.old)) (world_of (I.seen input.new) (O.seen out.new)) (Ok tt) }
-    ensures complete { Completes words.now (world_of (I.seen input.old) (O.seen out.old)) (world_of (I.seen input.new) (O.seen out.new)) result }
-    ensures untouched { result ≡ 2 → (input.new ≡ input.old) × (out.new ≡ out.old) }
+    ensures answer { IsAnswer words.now (world_of (S.seen shelf.old) (I.seen input.old) (O.seen out.old)) (world_of (S.seen shelf.new) (I.seen input.new) (O.seen out.new)) (E.seen err.old) (E.seen err.new) result }
+    ensures zero { result ≡ 0 → Works words.now (world_of (S.seen shelf.old) (I.seen input.old) (O.seen out.old)) (world_of (S.seen shelf.new) (I.seen input.new) (O.seen out.new)) (Ok tt) }
+    ensures complete { Completes words.now (world_of (S.seen shelf.old) (I.seen input.old) (O.seen out.old)) (world_of (S.seen shelf.new) (I.seen input.new) (O.seen out.new)) result }
+    ensures beside { (stream : Stream) → AskFor words.now (prints stream) → shelf.new ≡ shelf.old }
+    ensures untouched { result ≡ 2 → (shelf.new ≡ shelf.old) × (input.new ≡ input.old) × (out.new ≡ out.old) }
     ensures bounded { OfInput (I.seen input.old).bytes (λ bytes. IsWithinLimit bytes (I.seen input.new).bytes) }
 {
-    match run(alloc, words, input, out) {
+    match run(alloc, words, shelf, input, out) {
         Ok(()) => 0,
         Err(error) => error.report(alloc, err),
     }

@@ -1,7 +1,9 @@
-//! The program `vstore`: the top call over the words, the input and the outputs of its process.
+//! The program `vstore`: the top call over the words, the input and the outputs of its process, and the files of
+//! the working folder.
 #![tactic(auto)]
 
 use outside::{StdSink, StdSource};
+use shelf::DirShelf;
 use std::env;
 use std::io::ErrorKind;
 use std::process::ExitCode;
@@ -27,8 +29,16 @@ fn main(rt: HostRuntime) -> ExitCode {
     let Ok(words) = words(&rt) else {
         return ExitCode::from(NO_MEMORY);
     };
+    let mut shelf = DirShelf::new(rt.alloc(), &rt);
     let mut input = StdSource::new(rt.stdin());
     let mut out = StdSink::new(rt.stdout());
     let mut err = StdSink::new(rt.stderr());
-    ExitCode::from(vstore(rt.alloc(), words.as_slice(), &mut input, &mut out, &mut err))
+    ExitCode::from(vstore(
+        rt.alloc(),
+        words.as_slice(),
+        &mut shelf,
+        &mut input,
+        &mut out,
+        &mut err,
+    ))
 }

@@ -1,7 +1,0 @@
-use Rattle.std.proofs.Common.{take, map}
-use Rattle.query_tree.specs.View.{steps_of}
-use Rattle.variant_store.specs.Words.{ArePaths}
-use Rattle.variant_store.proofs.words.asked_paths.Given as goal
-
-abbrev pub invariant-loop-text : goal.invariant-loop-text
-invariant-loop-text l = ArePaths (map (λ t. t.now) (take l.text-index l.texts)) (map steps_of l.paths)

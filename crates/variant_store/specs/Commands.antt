@@ -1,0 +1,64 @@
+-- What a call can be asked to do.
+use Rattle.std.specs.Prelude.{◌≡◌, ℕ, List, [], ◌∷◌, codes, if◌then◌else◌, Option, Some, None}
+use Rattle.std.specs.Str.{bytes_eq}
+use Rattle.command_words.specs.Widths.{WidthsGiven}
+use Rattle.command_words.specs.declared.settings.WidthWords.{WidthWords}
+use Rattle.command_parsing.specs.Commands.{AskScan, AskScanWrongly, AskVariant, AskVariantWrongly}
+use Rattle.command_parsing.specs.declared.fault.BadWords.{BadWords}
+use Rattle.command_parsing.specs.declared.fault.BadWords.TheVariants.{Usage}
+use Rattle.query_tree.specs.Asked.{query_of}
+use Rattle.variant_write.specs.declared.widths.Widths.{Widths}
+use Rattle.variant_store.specs.Stream.{Stream, scan, variant}
+use Rattle.variant_store.specs.declared.command.Name.{Name}
+use Rattle.variant_store.specs.declared.command.Name.TheVariants as name
+use Rattle.variant_store.specs.declared.command.Command as code
+use Rattle.variant_store.specs.declared.command.Command.TheVariants as commands
+
+pub data Command : Type 0 where
+  -- to print something of each document of the input
+  prints : Stream → Command
+
+-- the command that a word names
+abbrev pub named : List ℕ → Option Name
+named word = if bytes_eq word (codes "scan") then Some name.Scan else (if bytes_eq word (codes "variant") then Some name.Variant else None)
+
+-- ---- by the first word, which names the command, and the words after it
+
+abbrev pub name_of : Command → Name
+name_of (prints (scan asked)) = name.Scan
+name_of (prints (variant widths)) = name.Variant
+
+abbrev pub widths_given : Widths → WidthsGiven
+widths_given widths = record { offset = widths.offset; id = widths.id }
+
+-- the words after a command's name ask for this
+abbrev pub AskCommand : List (List ℕ) → Command → Type 0
+AskCommand words (prints (scan asked)) = AskScan words asked
+AskCommand words (prints (variant widths)) = AskVariant words (widths_given widths)
+
+-- the words ask for this
+abbrev pub AskFor : List (List ℕ) → Command → Type 0
+AskFor [] command = ⊥
+AskFor (word ∷ words) command = (named word ≡ Some (name_of command)) × AskCommand words command
+
+-- the words after a command's name ask for nothing
+abbrev pub AskCommandWrongly : Option Name → List (List ℕ) → BadWords → Type 0
+AskCommandWrongly None words bad = bad ≡ Usage
+AskCommandWrongly (Some name.Scan) words bad = AskScanWrongly words bad
+AskCommandWrongly (Some name.Variant) words bad = AskVariantWrongly words bad
+
+-- the words ask for nothing: they name no command, or the words after its name aren't those of the command, or
+-- what these give is wrong
+abbrev pub AskWrongly : List (List ℕ) → BadWords → Type 0
+AskWrongly [] bad = bad ≡ Usage
+AskWrongly (word ∷ words) bad = AskCommandWrongly (named word) words bad
+
+-- ---- what the code holds
+
+-- the widths that words give
+abbrev pub widths_by : WidthWords → Widths
+widths_by words = record { offset = words.offset_width; id = words.id_width }
+
+abbrev pub command_of : code.Command → Command
+command_of (commands.Scan query) = prints (scan (query_of query))
+command_of (commands.Variant words) = prints (variant (widths_by words))
