@@ -9,7 +9,7 @@ use test_rows::{Shown, Wrong, check_rows};
 use vs_bytes::{NoMemory, Sequence, Text};
 
 // The words of a row: one space stands between two of them.
-fn words_of(alloc: Global, given: &str) -> Result<Sequence<Text>, NoMemory> {
+pub fn words_of(alloc: Global, given: &str) -> Result<Sequence<Text>, NoMemory> {
     let mut words = Sequence::new(alloc);
     for word in given.split(' ') {
         words.push(Text::from_str(alloc, word)?)?;

@@ -3,7 +3,10 @@
 //! | Module | What it shows |
 //! |---|---|
 //! | `files` | the words of `load`, `query` and `check` |
+//! | `asked` | what they ask for |
 #![tactic(auto)]
 
+#[cfg(test)]
+mod asked;
 #[cfg(test)]
 mod files;
