@@ -1,5 +1,5 @@
 -- What a schema element says of itself (parquet.thrift, SchemaElement; LogicalTypes.md).
-use Rattle.std.specs.Prelude.{ℕ, ◌==◌, ℤ, pos, negsuc, nat_lt, Bool, true, false, not, ◌&&◌, if◌then◌else◌, Option, Some, None, is_some}
+use Rattle.std.specs.Prelude.{ℕ, ℤ, pos, negsuc, nat_lt, Bool, true, false, not, if◌then◌else◌, Option, Some, None}
 use Rattle.std.specs.Ordering.{int_eq}
 use Rattle.vs_bytes.specs.declared.leaf_columns.Phys.{Phys}
 use Rattle.vs_bytes.specs.declared.leaf_columns.Phys.TheVariants as phys

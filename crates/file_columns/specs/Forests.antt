@@ -1,6 +1,6 @@
 -- A schema is a list of elements, each group in front of what stands inside it, with the number of elements that stand
 -- directly inside (parquet.thrift, "FileMetaData.schema": depth first). This is the tree that the list stands for.
-use Rattle.std.specs.Prelude.{◌≡◌, ℕ, zero, suc, ◌+◌, List, [], ◌∷◌, ◌++◌, cond}
+use Rattle.std.specs.Prelude.{◌≡◌, ℕ, zero, suc, ◌+◌, List, [], ◌∷◌, ◌++◌}
 use Rattle.schema_elements.specs.declared.elements.SchemaElement.{SchemaElement}
 use Rattle.schema_elements.specs.SchemaTrees.{child_count, own_leaf}
 

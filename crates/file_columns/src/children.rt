@@ -76,7 +76,12 @@ fn children<'a>(
 pub(crate) fn children_in<'a>(alloc: Global, child: &Child<'a>) -> Result<Vec<Child<'a>>, NoMemory>
     ensures { IfOk result (λ list. map seen list.items ≡ children_in (seen child.now)) }
 {
-    children(alloc, child.inside, child.element.child_count(), child.place)
+    children(
+        alloc,
+        child.inside,
+        child.element.child_count(),
+        child.place,
+    )
 }
 
 /// The first of a name among the elements that stand directly inside a schema's root.

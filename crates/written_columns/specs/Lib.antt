@@ -1,0 +1,2 @@
+-- the elements and the schema paths that are written
+pub mod Written
