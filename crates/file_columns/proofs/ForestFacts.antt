@@ -89,3 +89,22 @@ tree_tells es h = (trees_are es 1 h).tell
 
 pub tree_is_one : (es : List SchemaElement) → are_trees 1 es ≡ true → tree_count (forest es) ≡ 1
 tree_is_one es h = (trees_are es 1 h).count
+
+are_more : (f : Forest) (k : ℕ) (es : List SchemaElement) → Tells f → are_trees (tree_count f + k) (flat f ++ es) ≡ are_trees k es
+unfolding are_trees
+are_more no_trees k es h = let e : 0 + k ≡ k = omega arith in ap (λ n. are_trees n es) e
+are_more (tree e inside next) k es h =
+    let one : suc (tree_count next) + k ≡ suc (tree_count next + k) = omega arith in
+    let count : child_count e + (tree_count next + k) ≡ tree_count inside + (tree_count next + k) = omega (arith, h.0) in
+    ap (λ n. are_trees n (e ∷ ((flat inside ++ flat next) ++ es))) one
+    ∙ ap (are_trees (child_count e + (tree_count next + k))) (append_assoc (flat inside) (flat next) es)
+    ∙ ap (λ n. are_trees n (flat inside ++ (flat next ++ es))) count
+    ∙ are_more inside (tree_count next + k) (flat next ++ es) h.1
+    ∙ are_more next k es h.2
+
+-- trees that tell are told by the test on their elements
+pub one_is_told : (f : Forest) → Tells f → tree_count f ≡ 1 → are_trees 1 (flat f) ≡ true
+unfolding are_trees
+one_is_told f h one =
+    let e : tree_count f + 0 ≡ 1 = omega arith in
+    ap (λ n. are_trees n (flat f)) (sym e) ∙ ap (are_trees (tree_count f + 0)) (sym (append-nil (flat f))) ∙ are_more f 0 [] h

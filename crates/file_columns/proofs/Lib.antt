@@ -6,6 +6,8 @@ pub mod Gathering
 pub mod NamesSorted
 -- trees that are passed over, and listed
 pub mod Passing
+-- places are those of the schema's leaves
+pub mod PlacesWithin
 -- how deep objects and lists may nest
 pub mod Rooms
 -- columns are well-formed

@@ -1,7 +1,8 @@
 //! The column of a name.
 
-ghost use Rattle.std.specs.Prelude.{◌≡◌, ◌+◌, ◌*◌, ◌<◌, ◌^◌, map, length, IfOk};
+ghost use Rattle.std.specs.Prelude.{◌≡◌, ◌+◌, ◌*◌, ◌<◌, ◌^◌, map, length, All, IfOk};
 ghost use Rattle.vs_bytes.specs.Outcome.{Makes, Reads};
+ghost use Rattle.schema_elements.specs.SchemaTrees.{leaf_count};
 ghost use Rattle.shred_schema.specs.Groups.{width};
 ghost use Rattle.shred_schema.specs.Lawful.{IsWellFormed};
 ghost use Rattle.shred_schema.specs.Views.{group_of};
@@ -180,6 +181,7 @@ pub fn column(
     ensures well_formed { IfOk result (λ found. IsWellFormed (group_of found.column.node)) }
     ensures leaves { IfOk result (λ found. length found.leaves ≡ 1 + width (group_of found.column.node)) }
     ensures places { IfOk result (λ found. length found.places ≡ 1 + width (group_of found.column.node)) }
+    ensures within { IfOk result (λ found. All (λ place. place < leaf_count elements.now) found.places) }
     ensures ordered { IfOk result (λ found. length found.ordered ≡ 1 + width (group_of found.column.node)) }
 {
     match read_named(alloc, elements, name, orders) {

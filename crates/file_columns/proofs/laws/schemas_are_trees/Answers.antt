@@ -1,4 +1,4 @@
-use Rattle.file_columns.proofs.ForestFacts.{flat_forest, forest_flat, tree_tells, tree_is_one}
+use Rattle.file_columns.proofs.ForestFacts.{flat_forest, forest_flat, tree_tells, tree_is_one, one_is_told}
 use Rattle.file_columns.proofs.laws.schemas_are_trees.Goals as goal
 
 pub returns-clause-elements : goal.returns-clause-elements
@@ -12,3 +12,6 @@ returns-clause-tells c = tree_tells
 
 pub returns-clause-tree : goal.returns-clause-tree
 returns-clause-tree c = tree_is_one
+
+pub returns-clause-told : goal.returns-clause-told
+returns-clause-told c = one_is_told
