@@ -1,0 +1,2 @@
+pub mod FooterSizes
+pub mod GroupsMore
