@@ -1,6 +1,6 @@
 //! The entries of a chunk in its row group.
 
-ghost use Rattle.std.specs.Prelude.{◌≡◌};
+ghost use Rattle.std.specs.Prelude.{◌≡◌, true, IfOk};
 ghost use Rattle.vs_bytes.specs.Outcome.{Makes};
 ghost use Rattle.group_reading.specs.ChunkEntries.{row_starts, begins_row, has_rows, chunk_entries};
 
@@ -44,6 +44,7 @@ pub fn read_chunk(
     rows: u64,
 ) -> Result<EntryList, Refusal>
     ensures exact { Makes (λ entries. entries) result (chunk_entries leaf.now values rows bytes) }
+    ensures rows { IfOk result (λ entries. has_rows rows entries ≡ true) }
 {
     match ChunkReader::new(bytes, *leaf, values).into_entries(alloc) {
         Ok(entries) => {

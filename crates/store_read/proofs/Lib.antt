@@ -1,0 +1,3 @@
+pub mod GroupSeen
+pub mod GroupWalks
+pub mod Reading
