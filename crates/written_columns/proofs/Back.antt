@@ -234,7 +234,7 @@ unfolding group_element
 field_counted name count f g = omega arith
 
 mutual
-  members_leaves : (n : Group) → leaf_count (member_trees n) ≡ width n
+  pub members_leaves : (n : Group) → leaf_count (member_trees n) ≡ width n
   members_leaves (group s t) = value_counted s (typed_trees t) ∙ ap (λ k. slot_width s + k) (typed_leaves t)
 
   typed_leaves : (t : Kind) → leaf_count (typed_trees t) ≡ kind_width t

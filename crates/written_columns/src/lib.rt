@@ -11,7 +11,7 @@
 //! | `elements` | one element: a leaf, a group, the root, the column |
 //! | `schemas` | `schema_elements`: the elements of a column |
 //! | `paths` | `leaf_paths`: the schema path of each leaf |
-//! | `laws` | what is written reads back |
+//! | `laws` | what is written reads back, and is what a footer may have |
 #![tactic(auto)]
 
 mod elements;
@@ -19,6 +19,6 @@ mod laws;
 mod paths;
 mod schemas;
 
-pub use laws::{paths_are_ways, written_columns_read_back};
+pub use laws::{paths_are_ways, written_columns_read_back, written_schemas_fit};
 pub use paths::{PathList, SchemaPath, leaf_paths};
 pub use schemas::schema_elements;
