@@ -2,7 +2,7 @@
 
 ghost use Rattle.std.specs.Prelude.{◌≡◌, ℕ, ◌+◌, ◌^◌, ◌<◌, [], Some, None, cond, length, slice_index_or, IfOk};
 ghost use Rattle.shred_schema.specs.Projection.{count_read};
-ghost use Rattle.shred_schema.specs.Ranges.{reads};
+ghost use Rattle.shred_schema.specs.Ranges.{reads, is_any_read};
 ghost use Rattle.row_assembler.specs.Assembly.{place_in};
 
 use column_assembly::Cursor;
@@ -50,4 +50,17 @@ pub(crate) fn empty_cursors(alloc: Global, count: usize) -> Result<Vec<Cursor>, 
         cursors.push(Cursor::new(alloc))?;
     }
     Ok(cursors)
+}
+
+/// Whether a mask reads some leaf.
+#[tactic(auto, using(shred_schema::proofs::KeptFields::none_on, shred_schema::proofs::KeptFields::none_hit, shred_schema::proofs::KeptFields::none_end))]
+pub fn reads_any(mask: &[bool]) -> bool
+    ensures { result ≡ is_any_read (reads mask.now) 0 (length mask.now) }
+{
+    for leaf in 0..mask.len() {
+        if mask[leaf] {
+            return true;
+        }
+    }
+    false
 }

@@ -6,7 +6,7 @@
 //! | Module | What it holds |
 //! |---|---|
 //! | `assembler` | `Assembler`: entries in, rows out |
-//! | `leaf_places` | where the leaves that are read stand among one another |
+//! | `leaf_places` | where the leaves that are read stand among one another; `reads_any`: whether there are any |
 //! | `row_taking` | a row, taken from the entries of its leaves |
 //! | `laws` | what is read under a mask is read of the projected column |
 #![tactic(auto)]
@@ -18,3 +18,4 @@ mod row_taking;
 
 pub use assembler::Assembler;
 pub use laws::{projected_columns_are_read, rows_go_on};
+pub use leaf_places::reads_any;
