@@ -4,22 +4,23 @@ use Rattle.std.specs.Option.{option_map}
 use Rattle.std.proofs.lemmas.List.{map-append}
 use Rattle.vs_bytes.specs.declared.leaf_columns.Entry.{Entry}
 use Rattle.shred_schema.specs.declared.nodes.Slot.{Slot}
-use Rattle.shred_schema.specs.declared.nodes.Slot.TheVariants.{Absent}
+use Rattle.shred_schema.specs.declared.nodes.Slot.TheVariants.{Absent, Required, Optional}
 use Rattle.shred_schema.specs.declared.nodes.Node.{Node}
 use Rattle.shred_schema.specs.declared.records.Record.{Record}
 use Rattle.shred_schema.specs.Groups.{Group, group, Kind, free, scalar, object_of, list_of, groups_from, slot_width, width, kind_width, groups_width, height, groups_height}
 use Rattle.shred_schema.specs.Lawful.{HasLeaves, KindHasLeaves, GroupsHaveLeaves}
 use Rattle.shred_schema.specs.Ranges.{is_among, every}
-use Rattle.shred_schema.specs.Recs.{Rec, RecPart, empty, items, Recs, no_recs, recs, recs_from}
+use Rattle.shred_schema.specs.Recs.{Rec, rec, RecPart, empty, items, Recs, no_recs, recs, recs_from}
 use Rattle.shred_schema.specs.Views.{group_of, named, rec_of}
 use Rattle.shred_schema.proofs.Viewed.{fields_at, fields_end}
 use Rattle.record_assembly.specs.Laws.{Have}
 use Rattle.record_assembly.specs.Reading.{is_null, value_read, with_part, with_field, are_null, read, part_read, fields_read}
 use Rattle.record_assembly.proofs.Same.{read_same, fields_same}
 use Rattle.column_assembly.specs.Leaves.{heads, Passed}
-use Rattle.record_taking.specs.Parts.{is_free, typed_read, list_read, items_of}
+use Rattle.column_assembly.proofs.Passing.{passed_none}
+use Rattle.record_taking.specs.Parts.{is_bare, is_free, typed_read, list_read, items_of}
 use Rattle.record_taking.proofs.FirstLeaf.{part_not_begun, list_not_begun}
-use Rattle.record_taking.proofs.Joined.{untouched}
+use Rattle.record_taking.proofs.Joined.{passed_end, untouched}
 
 -- ---- a record: its value and its typed part
 
@@ -126,6 +127,32 @@ field_taken fs i f xs ys x a b k r m d whole h made is p e =
     ∙ (ap (λ o. option_map (λ more. before (map rec_of xs) more) (with_field (Some (rec_of x)) o)) (sym same)
     ∙ (ap (λ o. option_map (λ more. before (map rec_of xs) more) (with_field o (fields_read rest (k + w) every r m d (heads m a)))) (sym is)
     ∙ (ap (λ o. option_map (λ more. before (map rec_of xs) more) o) (sym (field_next fs i f k r m d (heads m a) h)) ∙ e))))
+
+-- a field that is neither value nor typed part
+bare_free : (t : Kind) → is_free t ≡ true → t ≡ free
+bare_free free h = refl
+bare_free (scalar q) h = cc
+bare_free (object_of gs) h = cc
+bare_free (list_of n) h = cc
+
+bare_is : (n : Group) → is_bare n ≡ true → n ≡ group Absent free
+bare_is (group Absent t) h = ap (λ (u : Kind). group Absent u) (bare_free t h)
+bare_is (group Required t) h = cc
+bare_is (group Optional t) h = cc
+
+pub bare_width : (n : Group) → is_bare n ≡ true → width n ≡ 0
+bare_width n h = ap width (bare_is n h)
+
+pub field_bare : (fs : List (List ℕ × Node)) (i : ℕ) (f : List ℕ × Node) (xs ys : List Record) (x : Record) (a : List (List Entry)) (k r m d : ℕ) (whole : Option Recs) → i < length fs → is_bare (group_of (get_or fs i f).1) ≡ true → ys ≡ xs ++ x ∷ [] → rec_of x ≡ rec None empty
+    → fields_left xs (drop i fs) k r m d (heads m a) ≡ whole → fields_left ys (drop (i + 1) fs) k r m d (heads m a) ≡ whole
+field_bare fs i f xs ys x a k r m d whole h bare made is e =
+    let n = group_of (get_or fs i f).1 in
+    let none : width n ≡ 0 = bare_width n bare in
+    let place : k + width n ≡ k = omega (arith, none) in
+    let read_is : read n k every r m d (heads m a) ≡ Some (rec_of x) = ap (λ (g : Group). read g k every r m d (heads m a)) (bare_is n bare) ∙ ap Some (sym is) in
+    let p : Passed a a k (width n) m = passed_end a a k 0 (width n) m (sym none) (passed_none a k m) in
+    subst (λ (j : ℕ). fields_left ys (drop (i + 1) fs) j r m d (heads m a) ≡ whole) place
+    (field_taken fs i f xs ys x a a k r m d whole h made read_is p e)
 
 pub field_missing : (fs : List (List ℕ × Node)) (i : ℕ) (f : List ℕ × Node) (xs : List Record) (k r m d : ℕ) (es : ℕ → List Entry) (whole : Option Recs) → i < length fs
     → fields_left xs (drop i fs) k r m d es ≡ whole → read (group_of (get_or fs i f).1) k every r m d es ≡ None → whole ≡ None

@@ -1,7 +1,8 @@
 -- What is read of a record part by part, where each leaf is read: the same as `read`, cut where the code cuts it.
 use Rattle.std.specs.Prelude.{ℕ, ◌+◌, Bool, true, false, List, [], cond, slice_index_or, suc, Option, Some}
 use Rattle.vs_bytes.specs.declared.leaf_columns.Entry.{Entry}
-use Rattle.shred_schema.specs.Groups.{Group, Kind, free, width, kind_width}
+use Rattle.shred_schema.specs.declared.nodes.Slot.TheVariants.{Absent}
+use Rattle.shred_schema.specs.Groups.{Group, group, Kind, free, width, kind_width}
 use Rattle.shred_schema.specs.Ranges.{every}
 use Rattle.shred_schema.specs.Recs.{Rec, RecPart, empty}
 use Rattle.record_assembly.specs.Cuts.{until}
@@ -31,3 +32,8 @@ items_of n k r m d es = cond (are_null every k (width n) r (d + 1) es) (Some [])
 abbrev pub is_free : Kind → Bool
 is_free free = true
 is_free t = false
+
+-- nor a value
+abbrev pub is_bare : Group → Bool
+is_bare (group Absent t) = is_free t
+is_bare (group s t) = false

@@ -13,12 +13,12 @@ ghost use Rattle.vs_bytes.specs.Outcome.{Reads};
 ghost use Rattle.record_assembly.specs.Cuts.{is_nil};
 ghost use Rattle.record_assembly.specs.Reading.{is_null, are_nil, read, part_read, fields_read};
 ghost use Rattle.column_assembly.specs.Leaves.{heads, Passed};
-ghost use Rattle.record_taking.specs.Parts.{is_free, rests, typed_read, list_read, items_of};
+ghost use Rattle.record_taking.specs.Parts.{is_bare, is_free, rests, typed_read, list_read, items_of};
 
 use crate::levels::Levels;
 use column_assembly::{Cursor, take_cell, take_nulls, take_value};
 use shred_schema::{
-    FieldList, Node, Part, Record, RecordList, Typed, slot_width, typed_width, width,
+    FieldList, Node, Part, Record, RecordList, Slot, Typed, slot_width, typed_width, width,
 };
 use sqlite_items::Items;
 use std::alloc::Global;
@@ -90,6 +90,16 @@ fn take_typed(
     }
     let (part, next) = take_part(alloc, cursors, leaf, typed, levels)?;
     Ok((Some(part), next))
+}
+
+/// Whether a node has neither a value nor a typed part.
+fn is_bare(node: &Node) -> bool
+    ensures { result ≡ is_bare (group_of node.now) }
+{
+    match node.value {
+        Slot::Absent => is_free(&node.typed),
+        _ => false,
+    }
 }
 
 /// Whether a node has no typed part.
@@ -181,6 +191,14 @@ fn take_fields(
     let mut at = leaf;
     for k in 0..members.len() {
         let node = &members[k].1;
+        // A field that isn't read keeps its place, and most fields of a projected column are of this kind.
+        if is_bare(node) {
+            records.push(Record {
+                value: None,
+                typed: None,
+            })?;
+            continue;
+        }
         let (found, next) = take_record(alloc, cursors, at, node, levels)?;
         records.push(found)?;
         at = next;

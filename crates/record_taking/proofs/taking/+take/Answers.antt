@@ -1,4 +1,4 @@
-use Rattle.std.proofs.Common.{◌≡◌, ◌∙◌, sym, ap, ◌+◌, ◌-◌, true, false, map, Some, None, arith}
+use Rattle.std.proofs.Common.{◌≡◌, ◌∙◌, sym, ap, ◌+◌, ◌-◌, true, false, map, Some, None, get_or, arith}
 use Rattle.std.specs.Option.{option_map}
 use Rattle.std.proofs.lemmas.Result.{err_from_is_err_and}
 use Rattle.vs_bytes.proofs.Refusals.{fails}
@@ -10,10 +10,10 @@ use Rattle.shred_schema.proofs.Viewed.{fields_are, kind_is_list, node_is, rec_is
 use Rattle.level_striping.proofs.Walks.{part_is_items}
 use Rattle.record_assembly.specs.Reading.{are_nil, are_null, fields_read}
 use Rattle.column_assembly.specs.Leaves.{heads}
-use Rattle.record_taking.specs.Parts.{rests}
+use Rattle.record_taking.specs.Parts.{is_bare, rests}
 use Rattle.record_taking.proofs.ItemTurns.{list_first, turn_some, turn_none, turn_end, turn_last, between_first, between_more, rests_nil, first_taken, item_taken, items_taken, items_missing, shrinks}
 use Rattle.record_taking.proofs.Joined.{passed_both, passed_end, passed_to, taken_whole}
-use Rattle.record_taking.proofs.PartsTaken.{record_read, typed_there, typed_broken, items_broken, as_items, list_part, field_taken, field_missing, fields_taken, fields_width, fields_done, field_height, field_leaves, kind_some}
+use Rattle.record_taking.proofs.PartsTaken.{record_read, typed_there, typed_broken, items_broken, as_items, bare_width, list_part, field_bare, field_taken, field_missing, fields_taken, fields_width, fields_done, field_height, field_leaves, kind_some}
 use Rattle.record_taking.proofs.taking.+take.Goals as goal
 
 pub take_fields-take_record-requires : goal.take_fields-take_record-requires
@@ -36,10 +36,23 @@ take_fields-loop-k-preserved t c =
     let wide = fields_width c.as_slice-members.result.now c.loop-k.k c.index-members-k.result (omega arith) in
     let leaves = field_leaves c.as_slice-members.result.now c.loop-k.k c.index-members-k.result (omega arith) c.loop-k.invariant.leaves in
     record {
-      read = rw c.in_ok-found.ensures.next (field_taken c.as_slice-members.result.now c.loop-k.k c.index-members-k.result c.loop-k.records.items c.push.new.self.items c.in_ok-found.found c.loop-k.cursors c.take_record.new.cursors c.loop-k.at c.args.levels.rep c.args.levels.lists c.args.levels.def _ (omega arith) c.in_ok-push.ensures.items c.in_ok-found.ensures.read c.in_ok-found.ensures.passed c.loop-k.invariant.read);
+      read = rw c.in_ok-found.ensures.next (field_taken c.as_slice-members.result.now c.loop-k.k c.index-members-k.result c.loop-k.records.items c.push-in-loop-k.new.self.items c.in_ok-found.found c.loop-k.cursors c.take_record.new.cursors c.loop-k.at c.args.levels.rep c.args.levels.lists c.args.levels.def _ (omega arith) c.in_ok-push-2.ensures.items c.in_ok-found.ensures.read c.in_ok-found.ensures.passed c.loop-k.invariant.read);
       passed = passed_to _ _ _ c.args.leaf c.loop-k.at _ c.in_ok-found.next c.args.levels.lists c.loop-k.invariant.order c.in_ok-found.ensures.next c.loop-k.invariant.passed c.in_ok-found.ensures.passed;
       order = omega (arith, c.loop-k.invariant.order, c.in_ok-found.ensures.next);
       sum = omega (arith, wide, c.loop-k.invariant.sum, c.in_ok-found.ensures.next);
+      leaves = leaves.1;
+    }
+
+pub take_fields-loop-k-preserved-then-is_bare : goal.take_fields-loop-k-preserved-then-is_bare
+take_fields-loop-k-preserved-then-is_bare t c =
+    let bare : is_bare (group_of (get_or c.as_slice-members.result.now c.loop-k.k c.index-members-k.result).1) ≡ true = sym c.is_bare.ensures ∙ c.if-is_bare.true in
+    let wide = fields_width c.as_slice-members.result.now c.loop-k.k c.index-members-k.result (omega arith) in
+    let leaves = field_leaves c.as_slice-members.result.now c.loop-k.k c.index-members-k.result (omega arith) c.loop-k.invariant.leaves in
+    record {
+      read = field_bare c.as_slice-members.result.now c.loop-k.k c.index-members-k.result c.loop-k.records.items c.push.new.self.items _ c.loop-k.cursors c.loop-k.at c.args.levels.rep c.args.levels.lists c.args.levels.def _ (omega arith) bare c.in_ok-push.ensures.items (rec_is _) c.loop-k.invariant.read;
+      passed = c.loop-k.invariant.passed;
+      order = c.loop-k.invariant.order;
+      sum = omega (arith, wide, c.loop-k.invariant.sum, bare_width (group_of (get_or c.as_slice-members.result.now c.loop-k.k c.index-members-k.result).1) bare);
       leaves = leaves.1;
     }
 
