@@ -5,12 +5,14 @@
 # usage: bench/run.sh PROGRAM [MEGABYTES..]
 #
 # The environment may name the program `variant_cost` as COST: then reading Variant bytes is counted too. And it may name
-# the program `column_cost` as COLUMN_COST: then so are the values of columns.
+# the program `column_cost` as COLUMN_COST: then so are the values of columns. And `striping_cost` as STRIPING_COST: then so
+# are the entries of rows.
 set -eu
 here=$(cd "$(dirname "$0")" && pwd)
 program=$(realpath "$1")
 cost=${COST:-}
 column_cost=${COLUMN_COST:-}
+striping_cost=${STRIPING_COST:-}
 shift
 sizes=${*:-10 100}
 work=$(mktemp -d)
@@ -154,6 +156,27 @@ if command -v valgrind > /dev/null; then
         turns() { valgrind --tool=callgrind --callgrind-out-file=/dev/null "$column_cost" "$1" "$2" 2>&1 > /dev/null | awk '/Collected/ {print $4}'; }
         for what in runs packed-1 packed-3 packed-17 write-levels read-integers write-integers read-texts write-texts read-page write-page; do
             python3 -c "print(f'| $what | {($(turns $what 1) - $(turns $what 0)) / 1000000:.1f} |')"
+        done
+    fi
+
+    # rows split into entries, and put together from them; start-up and the making of the rows taken off, and of what puts
+    # together the splitting
+    if [ -n "$striping_cost" ]; then
+        echo
+        echo "| entries of 2,000 rows | entries | instructions per entry |"
+        echo "|---|---|---|"
+        entries() { valgrind --tool=callgrind --callgrind-out-file=/dev/null "$striping_cost" "$1" "$2" 2>&1 > "$work/out" | awk '/Collected/ {print $4}'; }
+        for shape in flat lists; do
+            start=$(entries "stripe-$shape" 0)
+            split=$(entries "stripe-$shape" 1)
+            count=$(awk '{print $1}' "$work/out")
+            python3 -c "print(f'| stripe-$shape | $count | {($split - $start) / $count:.1f} |')"
+            for what in $([ "$shape" = flat ] && echo flat one || echo lists); do
+                base=$(entries "assemble-$what" 0)
+                both=$(entries "assemble-$what" 1)
+                count=$(awk '{print $1}' "$work/out")
+                python3 -c "print(f'| assemble-$what | $count | {($both - $base - ($split - $start)) / $count:.1f} |')"
+            done
         done
     fi
 
