@@ -11,5 +11,6 @@ mod gathering;
 mod row_records;
 mod settings;
 
+pub use gathering::OpenGroup;
 pub use row_records::record_of;
 pub use settings::Settings;
