@@ -100,6 +100,34 @@ size_is (x ∷ xs) = omega (arith, sum_by-cons {X = List ℕ} length x xs, size_
 within : (len : ℕ) → len ≤ footer_limit → nat_le len footer_limit ≡ true
 within len h = grind (arith, nat_tests)
 
+-- the footer, by what is kept
+pub footer_same : (s : Settings) (n : Group) (c : Closed) (groups : List GroupMeta) → c.schema ≡ schema_of n → c.orders ≡ orders_of (paths_of n)
+    → (format s n).footer groups ≡ footer_bytes (file_meta c.schema c.orders groups)
+footer_same s n c groups schema orders =
+    ap (λ (sch : List SchemaElement). footer_bytes (file_meta sch (orders_of (paths_of n)) groups)) (sym schema) ∙ ap (λ (os : List ℤ). footer_bytes (file_meta c.schema os groups)) (sym orders)
+
+-- a group closes behind others
+pub body_with : (g : Open) (c : Closed) (bytes : List ℕ) (groups : List (List (Option Json))) (group : List (Option Json)) (records : List RowRec)
+    → c.schema ≡ schema_of (node_of g) → c.orders ≡ orders_of (paths_of (node_of g)) → g.paths ≡ paths_of (node_of g) → c.place ≡ length bytes
+    → body_of (format g.settings (node_of g)) groups ≡ Ok (record { bytes = bytes; metas = c.groups }) → records_of g.settings (node_of g) group ≡ records → footer_size (closed_with g c records) ≤ footer_limit
+    → body_of (format g.settings (node_of g)) (groups ++ group ∷ []) ≡ Ok (record { bytes = bytes ++ concat (chunks_with g records); metas = (closed_with g c records).groups })
+body_with g c bytes groups group records schema orders paths place before is small =
+    let s : Settings = g.settings in
+    let n : Group = node_of g in
+    let f : Format (Option Json) GroupMeta = format s n in
+    let later : List GroupMeta = (closed_with g c records).groups in
+    let struct : f.meta (length bytes) group ≡ struct_of s n g.paths c.place records =
+    ap (λ (rs : List RowRec). struct_of s n (paths_of n) (length bytes) rs) is ∙ ap (λ (ps : List Path). struct_of s n ps (length bytes) records) (sym paths)
+    ∙ ap (λ (p : ℕ). struct_of s n g.paths p records) (sym place) in
+    let metas : c.groups ++ f.meta (length bytes) group ∷ [] ≡ later = ap (λ (m : GroupMeta). c.groups ++ m ∷ []) struct in
+    let footer : f.footer (c.groups ++ f.meta (length bytes) group ∷ []) ≡ footer_bytes (meta_of (closed_with g c records)) = ap f.footer metas ∙ footer_same s n c later schema orders in
+    let chunks : concat (f.chunks group) ≡ concat (chunks_with g records) = ap (λ (rs : List RowRec). concat (chunks_of s n rs)) is in
+    let short : nat_le (length (f.footer (c.groups ++ f.meta (length bytes) group ∷ []))) footer_limit ≡ true = within _ (subst (λ (x : List ℕ). length x ≤ footer_limit) (sym footer) small) in
+    body_more f groups group ∙ ap (λ (r : Result (Body GroupMeta) ℕ). close f r group) before
+    ∙ ap (λ (t : Bool). cond t (Ok (record { bytes = bytes ++ concat (f.chunks group); metas = c.groups ++ f.meta (length bytes) group ∷ [] })) (Err (length (f.footer (c.groups ++ f.meta (length bytes) group ∷ []))))) short
+    ∙ ap (λ (x : List ℕ). Ok (record { bytes = bytes ++ x; metas = c.groups ++ f.meta (length bytes) group ∷ [] })) chunks
+    ∙ ap (λ (ms : List GroupMeta). Ok (record { bytes = bytes ++ concat (chunks_with g records); metas = ms })) metas
+
 -- the group closes with the row
 stands_closed : (name : List ℕ) (g h : Open) (c d : Closed) (before after : Storage) (bytes : List ℕ) (rows : List (Option Json)) (row : Option Json) → is_full_with g row ≡ true
     → IsClosed name g h c d before after (records_with g row) → h.paths ≡ g.paths → StandsBy g.settings (node_of g) g c bytes rows
@@ -107,37 +135,22 @@ stands_closed : (name : List ℕ) (g h : Open) (c d : Closed) (before after : St
 stands_closed name g h c d before after bytes rows row full done paths k =
     let s : Settings = g.settings in
     let n : Group = node_of g in
-    let f : Format (Option Json) GroupMeta = format s n in
     let cut : Cut (Option Json) = cut_of (is_full s n) rows in
     let group : List (Option Json) = cut.rest ++ row ∷ [] in
-    let b : Body GroupMeta = record { bytes = bytes; metas = c.groups } in
+    let more : List ℕ = concat (chunks_with g (records_with g row)) in
     let now : cut_of (is_full s n) (rows ++ row ∷ []) ≡ record { closed = cut.closed ++ group ∷ []; rest = [] } =
     cut_more (is_full s n) rows row ∙ at_cut (is_full s n group) _ _ (full_same g cut.rest row k.rest k.texts ∙ full) in
-    let records : records_of s n group ≡ records_with g row = sym (rest_more g cut.rest row k.rest) in
-    let struct : f.meta (length bytes) group ≡ struct_of s n g.paths c.place (records_with g row) =
-    ap (λ (rs : List RowRec). struct_of s n (paths_of n) (length bytes) rs) records ∙ ap (λ (ps : List Path). struct_of s n ps (length bytes) (records_with g row)) (sym k.paths)
-    ∙ ap (λ (p : ℕ). struct_of s n g.paths p (records_with g row)) (sym k.at_end) in
-    let metas : c.groups ++ f.meta (length bytes) group ∷ [] ≡ (closed_with g c (records_with g row)).groups = ap (λ (m : GroupMeta). c.groups ++ m ∷ []) struct in
-    let footer : f.footer (c.groups ++ f.meta (length bytes) group ∷ []) ≡ footer_bytes (meta_of (closed_with g c (records_with g row))) =
-    ap (λ (ms : List GroupMeta). footer_bytes (file_meta (schema_of n) (orders_of (paths_of n)) ms)) metas
-    ∙ ap (λ (sch : List SchemaElement). footer_bytes (file_meta sch (orders_of (paths_of n)) (closed_with g c (records_with g row)).groups)) (sym k.schema)
-    ∙ ap (λ (os : List ℤ). footer_bytes (file_meta c.schema os (closed_with g c (records_with g row)).groups)) (sym k.orders) in
-    let chunks : concat (f.chunks group) ≡ concat (chunks_with g (records_with g row)) = ap (λ (rs : List RowRec). concat (chunks_of s n rs)) records in
-    let short : nat_le (length (f.footer (c.groups ++ f.meta (length bytes) group ∷ []))) footer_limit ≡ true =
-    within _ (subst (λ (x : List ℕ). length x ≤ footer_limit) (sym footer) done.short) in
-    let body : body_of f (cut.closed ++ group ∷ []) ≡ Ok (record { bytes = bytes ++ concat (chunks_with g (records_with g row)); metas = d.groups }) =
-    body_more f cut.closed group ∙ ap (λ (r : Result (Body GroupMeta) ℕ). close f r group) k.closed
-    ∙ ap (λ (t : Bool). cond t (Ok (record { bytes = bytes ++ concat (f.chunks group); metas = c.groups ++ f.meta (length bytes) group ∷ [] })) (Err (length (f.footer (c.groups ++ f.meta (length bytes) group ∷ []))))) short
-    ∙ ap (λ (x : List ℕ). Ok (record { bytes = bytes ++ x; metas = c.groups ++ f.meta (length bytes) group ∷ [] })) chunks
-    ∙ ap (λ (ms : List GroupMeta). Ok (record { bytes = bytes ++ concat (chunks_with g (records_with g row)); metas = ms })) (metas ∙ ap (λ (x : Closed). x.groups) (sym done.closed)) in
+    let body : body_of (format s n) (cut.closed ++ group ∷ []) ≡ Ok (record { bytes = bytes ++ more; metas = d.groups }) =
+    body_with g c bytes cut.closed group (records_with g row) k.schema k.orders k.paths k.at_end k.closed (sym (rest_more g cut.rest row k.rest)) done.short
+    ∙ ap (λ (x : Closed). Ok (record { bytes = bytes ++ more; metas = x.groups })) (sym done.closed) in
     record {
       schema = ap (λ (x : Closed). x.schema) done.closed ∙ k.schema;
       orders = ap (λ (x : Closed). x.orders) done.closed ∙ k.orders;
       paths = paths ∙ k.paths;
-      closed = ap (λ (x : Cut (Option Json)). body_of f x.closed) now ∙ body;
+      closed = ap (λ (x : Cut (Option Json)). body_of (format s n) x.closed) now ∙ body;
       rest = ap (λ (rs : List RowRecord). map row_rec_of rs) done.rows ∙ ap (λ (x : Cut (Option Json)). records_of s n x.rest) (sym now);
       texts = done.texts ∙ ap (λ (x : Cut (Option Json)). texts_len x.rest) (sym now);
-      at_end = ap (λ (x : Closed). x.place) done.closed ∙ omega (arith, k.at_end, size_is (chunks_with g (records_with g row)), length-append bytes (concat (chunks_with g (records_with g row))));
+      at_end = ap (λ (x : Closed). x.place) done.closed ∙ omega (arith, k.at_end, size_is (chunks_with g (records_with g row)), length-append bytes more);
     }
 
 -- the same of another writer of the same column and choices
@@ -147,7 +160,7 @@ stands_on g h c d bytes rows keeps k =
     (subst (λ (x : Column). StandsBy g.settings (group_of x.node) h d bytes rows) (sym keeps.column) k)
 
 -- a file that was there, with more bytes
-grown : (m : Files) (name bytes more : List ℕ) → get m name ≡ Some bytes → get (insert m name (unwrap_or (get m name) [] ++ more)) name ≡ Some (bytes ++ more)
+pub grown : (m : Files) (name bytes more : List ℕ) → get m name ≡ Some bytes → get (insert m name (unwrap_or (get m name) [] ++ more)) name ≡ Some (bytes ++ more)
 grown m name bytes more there =
     get_inserted m name (unwrap_or (get m name) [] ++ more) ∙ ap (λ (o : Option (List ℕ)). Some (unwrap_or o [] ++ more)) there
 

@@ -11,10 +11,10 @@ use Rattle.group_writing.specs.GroupChunks.{chunks_size}
 use Rattle.open_group.specs.declared.settings.Settings.{Settings}
 use Rattle.open_group.specs.Filling.{is_full, is_full_by, rows_count, records_of}
 use Rattle.open_group.specs.OpenGroups.{Open, records_in, node_of, KeepsColumn}
-use Rattle.closed_groups.specs.ClosedGroups.{Closed, meta_of, with_group, footer_size, footer_limit, ending_of}
+use Rattle.closed_groups.specs.ClosedGroups.{Closed, meta_of, with_group, footer_size, footer_limit, ending_of, magic}
 use Rattle.footer_structs.specs.FooterWriting.{footer_bytes}
-use Rattle.shelf.specs.Storage.{Files, Storage, appended, FailsWrite}
-use Rattle.shelf.specs.Calls.{Adds}
+use Rattle.shelf.specs.Storage.{Files, Storage, Lacks, with_file, appended}
+use Rattle.shelf.specs.Calls.{Creates, Adds}
 use Rattle.shelf.specs.declared.shelf.ShelfError.TheVariants as shelf
 use Rattle.store_write.specs.Cutting.{cut_of}
 use Rattle.store_write.specs.Frames.{body_of}
@@ -23,6 +23,7 @@ use Rattle.store_write.specs.declared.write_error.First.{First}
 use Rattle.store_write.specs.declared.write_error.First.TheVariants as first
 use Rattle.store_write.specs.Refusals.{told_of, refused_in}
 use Rattle.store_write.specs.declared.write_error.WriteError.{WriteError}
+use Rattle.store_write.specs.declared.write_error.WriteError.TheVariants as error
 use Rattle.store_write.specs.declared.file_writer.FileWriter.{FileWriter}
 
 -- what contracts see of a writer: the name of its file, the node of its column, and the choices
@@ -128,22 +129,54 @@ abbrev pub left_closed : Open → Closed → List RowRec → Closed
 left_closed g c [] = c
 left_closed g c records = closed_with g c records
 
--- all that the end adds to the file
-abbrev pub end_bytes : Open → Closed → List ℕ
-end_bytes g c = left_chunks g (records_in g) ++ ending_of (footer_bytes (meta_of (left_closed g c (records_in g))))
+-- where rows were left, the footer isn't too long with their group
+abbrev pub IsShortEnd : Open → Closed → List RowRec → Type 0
+IsShortEnd g c [] = Unit {0}
+IsShortEnd g c records = footer_size (closed_with g c records) ≤ footer_limit
 
-abbrev pub Finishes : List ℕ → Open → Closed → Storage → Storage → Result (Unit {0}) First → Type 0
-Finishes name g c before after (Ok _) = after ≡ record before { files = appended before.files name (end_bytes g c) }
-Finishes name g c before after (Err first.Failed) = Adds before after name (end_bytes g c) (Err shelf.Failed)
-Finishes name g c before after (Err (first.FooterFull len)) = (after ≡ before) × (len ≡ footer_size (left_closed g c (records_in g))) × (footer_limit < len)
-Finishes name g c before after (Err first.NoMemory) = (after ≡ before) ⊎ Adds before after name (end_bytes g c) (Err shelf.NoMemory)
+-- all that the end adds to the file
+abbrev pub end_bytes : Open → Closed → List RowRec → List ℕ
+end_bytes g c records = left_chunks g records ++ ending_of (footer_bytes (meta_of (left_closed g c records)))
+
+abbrev pub Finishes : List ℕ → Open → Closed → List RowRec → Storage → Storage → Result (Unit {0}) First → Type 0
+Finishes name g c records before after (Ok _) = (after ≡ record before { files = appended before.files name (end_bytes g c records) }) × IsShortEnd g c records
+Finishes name g c records before after (Err first.Failed) = Adds before after name (end_bytes g c records) (Err shelf.Failed)
+Finishes name g c records before after (Err (first.FooterFull len)) = (after ≡ before) × (len ≡ footer_size (left_closed g c records)) × (footer_limit < len)
+Finishes name g c records before after (Err first.NoMemory) = (after ≡ before) ⊎ Adds before after name (end_bytes g c records) (Err shelf.NoMemory)
+
+-- the footer alone
+abbrev pub EndsWith : List ℕ → List ℕ → Storage → Storage → Result (Unit {0}) First → Type 0
+EndsWith name bytes before after (Ok _) = after ≡ record before { files = appended before.files name bytes }
+EndsWith name bytes before after (Err first.Failed) = Adds before after name bytes (Err shelf.Failed)
+EndsWith name bytes before after (Err (first.FooterFull len)) = ⊥
+EndsWith name bytes before after (Err first.NoMemory) = (after ≡ before) ⊎ Adds before after name bytes (Err shelf.NoMemory)
 
 pub record EndsFile (w : FileWriter) (before after : Storage) (result : Result (Unit {0}) WriteError) : Type 0 where
   pub done : Result (Unit {0}) First
   pub told : result ≡ told_of done
-  pub finishes : Finishes w.name w.open w.closed before after done
+  pub finishes : Finishes w.name w.open w.closed (records_in w.open) before after done
 
 -- where the files are known, the file is the one of these rows
 abbrev pub MadeIn : Option Files → List ℕ → Settings → Group → List (Option Json) → Type 0
 MadeIn None name settings n rows = Unit {0}
 MadeIn (Some m) name settings n rows = (bytes : List ℕ) × (get m name ≡ Some bytes) × (made settings n rows ≡ Ok bytes)
+
+-- what a call leaves that makes a file and writes the magic number to it
+abbrev pub Starts : Storage → Storage → List ℕ → Option WriteError → Type 0
+Starts before after name None = Lacks before.files name × (after ≡ record before { files = with_file before.files name magic })
+Starts before after name (Some error.Taken) = Creates before after name (Err shelf.Taken)
+Starts before after name (Some error.Failed) = Creates before after name (Err shelf.Failed) ⊎ ((made : Storage) × Creates before made name (Ok tt) × Adds made after name magic (Err shelf.Failed))
+Starts before after name (Some error.NoMemory) = (after ≡ before) ⊎ ((made : Storage) × Creates before made name (Ok tt) × Adds made after name magic (Err shelf.NoMemory))
+Starts before after name (Some (error.FooterFull len)) = ⊥
+Starts before after name (Some (error.Broken e)) = ⊥
+
+-- why a call was refused, if it was
+abbrev pub error_of : {A E : Type 0} → Result A E → Option E
+error_of (Ok a) = None
+error_of (Err e) = Some e
+
+-- a writer of this name, node and choices
+pub record IsFor (w : FileWriter) (name : List ℕ) (n : Group) (settings : Settings) : Type 0 where
+  pub named : w.name ≡ name
+  pub of : node_in w ≡ n
+  pub chosen : settings_in w ≡ settings

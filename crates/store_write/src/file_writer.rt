@@ -4,7 +4,7 @@ ghost use Rattle.open_group.specs.Filling.{texts_limit};
 ghost use Rattle.std.specs.Prelude.{◌<◌};
 ghost use Rattle.std.specs.Option.{ForNone};
 
-use crate::group_closing::add_row;
+use crate::group_closing::{add_row, end_file};
 use crate::write_error::{First, WriteError};
 use closed_groups::ClosedGroups;
 use json_tree::Tree;
@@ -30,7 +30,7 @@ impl FileWriter {
     ghost use Rattle.striping_laws.specs.Rows.{CanBeRow};
     ghost use Rattle.shelf.specs.Storage.{Has};
     ghost use Rattle.open_group.specs.OpenGroups.{row_of};
-    ghost use Rattle.store_write.specs.Writers.{name_of, broken_by, StandsIn, AddsRow, KeepsForm};
+    ghost use Rattle.store_write.specs.Writers.{name_of, node_in, settings_in, broken_by, StandsIn, MadeIn, AddsRow, EndsFile, KeepsForm};
 
     /// Adds a row: a document, or none.
     ///
@@ -53,6 +53,29 @@ impl FileWriter {
                 self.broken = Some(first);
                 Err(first.refusal())
             }
+        }
+    }
+
+    /// Ends the file: the rows that are left close as a group, and the footer follows.
+    pub fn finish<S: Shelf>(self, shelf: &mut S) -> Result<(), WriteError>
+        requires there { broken_by self ≡ None → Has (S.seen shelf.old).files (name_of self) }
+        ensures broken { IfSome (broken_by self) (λ first. (result ≡ Err (WriteError.Broken first)) × (shelf.new ≡ shelf.old)) }
+        ensures ends { broken_by self ≡ None → EndsFile self (S.seen shelf.old) (S.seen shelf.new) result }
+        ensures made { (rows : List (Option Json)) → StandsIn (S.seen shelf.old).files self rows
+            → OnOk result (MadeIn (S.seen shelf.new).files (name_of self) (settings_in self) (node_in self) rows) }
+    {
+        let FileWriter {
+            name,
+            mut open,
+            mut closed,
+            broken,
+        } = self;
+        if let Some(first) = broken {
+            return Err(WriteError::Broken(first));
+        }
+        match end_file(shelf, &name, &mut open, &mut closed) {
+            Ok(()) => Ok(()),
+            Err(first) => Err(first.refusal()),
         }
     }
 }

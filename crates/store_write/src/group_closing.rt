@@ -5,7 +5,9 @@ ghost use Rattle.shelf.specs.Storage.{Has};
 ghost use Rattle.striping_laws.specs.Rows.{CanBeRow};
 ghost use Rattle.open_group.specs.Filling.{texts_limit};
 ghost use Rattle.open_group.specs.OpenGroups.{records_in, row_of, KeepsColumn};
-ghost use Rattle.store_write.specs.Writers.{Closes, Pushes};
+ghost use Rattle.footer_structs.specs.FooterWriting.{footer_bytes};
+ghost use Rattle.closed_groups.specs.ClosedGroups.{meta_of, ending_of};
+ghost use Rattle.store_write.specs.Writers.{Closes, Pushes, EndsWith, Finishes};
 
 use crate::write_error::First;
 use closed_groups::{ClosedGroups, Unclosed};
@@ -75,4 +77,40 @@ pub fn add_row<S: Shelf>(
         return Ok(());
     }
     close_group(shelf, name, group, closed)
+}
+
+// Adds the footer to the file, with its length and the magic number.
+fn put_ending<S: Shelf>(shelf: &mut S, name: &Text, closed: &ClosedGroups) -> Result<(), First>
+    requires there { Has (S.seen shelf.old).files name.now }
+    ensures { EndsWith name.now (ending_of (footer_bytes (meta_of closed.now))) (S.seen shelf.old) (S.seen shelf.new) result }
+{
+    let ending = match closed.ending() {
+        Ok(ending) => ending,
+        Err(_) => return Err(First::NoMemory),
+    };
+    match shelf.append(name, ending.as_slice()) {
+        Ok(()) => Ok(()),
+        Err(ShelfError::NoMemory) => Err(First::NoMemory),
+        Err(_) => Err(First::Failed),
+    }
+}
+
+/// Ends a file: the rows that are left close as a group, and the footer follows.
+pub fn end_file<S: Shelf>(
+    shelf: &mut S,
+    name: &Text,
+    group: &mut OpenGroup,
+    closed: &mut ClosedGroups,
+) -> Result<(), First>
+    requires there { Has (S.seen shelf.old).files name.now }
+    ensures { Finishes name.now group.old closed.old (records_in group.old) (S.seen shelf.old) (S.seen shelf.new) result }
+{
+    if group.len() == 0 {
+        return put_ending(shelf, name, closed);
+    }
+    match close_group(shelf, name, group, closed) {
+        Ok(()) => {}
+        Err(first) => return Err(first),
+    }
+    put_ending(shelf, name, closed)
 }
