@@ -5,10 +5,15 @@
 //! |---|---|
 //! | `elements` | schema elements and logical types |
 //! | `footers` | whole footers |
-//! | `written` | a footer that is written |
+//! | `opening` | files that are opened |
+//! | `written` | footers that are written |
 #![tactic(auto)]
 
 #[cfg(test)]
 mod elements;
 #[cfg(test)]
 mod footers;
+#[cfg(test)]
+mod opening;
+#[cfg(test)]
+mod written;
