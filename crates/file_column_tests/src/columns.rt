@@ -89,6 +89,7 @@ fn kinds_that_are_not_read_are_refused_kinds(rt: HostRuntime) -> Result<(), Fail
         ],
     )?;
     let found = read(rt.alloc(), &list)?;
+    assert!(&rt; found.leaves.len() == 4);
     assert!(&rt; has_leaf(&found, 1, 1, 0, 3, Prim::Refused(Rule::FloatLeftOut)));
     assert!(&rt; has_leaf(&found, 2, 2, 0, 3, Prim::Refused(Rule::KindNotRead)));
     assert!(&rt; has_leaf(&found, 3, 3, 0, 3, Prim::Refused(Rule::KindNotRead)));

@@ -70,6 +70,7 @@ fn deep(alloc: Global, count: u32) -> Result<ElementList, NoMemory> {
 fn objects_nest_64_deep_at_most(rt: HostRuntime) -> Result<(), Fail> {
     let most = deep(rt.alloc(), 64)?;
     let found = read(rt.alloc(), &most)?;
+    assert!(&rt; found.leaves.len() == 2);
     assert!(&rt; found.leaves.at(1).def == 66);
     let over = deep(rt.alloc(), 65)?;
     assert!(&rt; is_refused(rt.alloc(), &over, Rule::SchemaShape));
