@@ -1,0 +1,2 @@
+-- lines and trees of the rows of a group
+pub mod Lines
