@@ -1,11 +1,13 @@
-//! What is written reads back. The law is a contract of an empty function.
+//! What is written reads back. Each law is a clause of an empty function.
 
 ghost use Rattle.std.specs.Prelude.{◌≡◌, ◌++◌, ℕ, List, Ok};
 ghost use Rattle.footer_structs.specs.ReadFooters.{footer};
-ghost use Rattle.footer_structs.specs.FooterWriting.{footer_bytes, FooterReadsBack};
+ghost use Rattle.footer_structs.specs.FooterWriting.{footer_bytes, FileFits, FooterReadsBack};
 ghost use Rattle.footer_structs.specs.declared.file_metadata.FileMeta.{FileMeta};
 
-/// The bytes that `write_footer` writes are read back by `read_footer`, whatever bytes follow them.
+/// The bytes that `write_footer` writes are read back by `read_footer`, whatever bytes follow them. What reads back can
+/// be written.
 pub fn footers_read_back()
-    ensures { (m : FileMeta) (rest : List ℕ) → FooterReadsBack m → footer (footer_bytes m ++ rest) ≡ Ok m }
+    ensures read { (m : FileMeta) (rest : List ℕ) → FooterReadsBack m → footer (footer_bytes m ++ rest) ≡ Ok m }
+    ensures writable { (m : FileMeta) → FooterReadsBack m → FileFits m }
 {}

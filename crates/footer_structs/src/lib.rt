@@ -6,7 +6,8 @@
 //! | `row_groups` | `GroupMeta`: a row group |
 //! | `file_metadata` | `FileMeta`: the metadata of a file |
 //! | `footer_reading` | `read_footer` |
-//! | `footer_writing` | `write_footer`, and the length of a footer |
+//! | `footer_writing` | `write_footer`; `append_group`, `footer_len`: the length of a footer by its groups' bytes |
+//! | `laws` | what is written reads back |
 #![tactic(auto)]
 
 mod column_orders;

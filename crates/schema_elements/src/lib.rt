@@ -2,8 +2,13 @@
 //!
 //! | Module | What it holds |
 //! |---|---|
-//! | `elements` | `SchemaElement`: an element of the schema |
-//! | `logical_types` | `Logical`: its logical type |
+//! | `elements`, `element_writing` | `SchemaElement`: an element of the schema, read; written |
+//! | `logical_types`, `logical_writing` | `Logical`: its logical type, read; written |
+//! | `members` | what the members of a logical type hold |
+//! | `unions` | `UnionSlots`: a struct of which one member counts |
+//! | `entries` | what fields hold: small numbers, truth values, names |
+//! | `schema_trees` | groups and leaves; `is_one_tree`: whether elements are one tree |
+//! | `laws` | what is written reads back |
 #![tactic(auto)]
 
 mod element_writing;
@@ -20,8 +25,6 @@ pub use elements::{ElementDraft, ElementList, ElementSlots, SchemaElement};
 pub use entries::{Flag, Small, Words};
 pub use laws::elements_read_back;
 pub use logical_types::{Logical, LogicalDraft};
-pub use members::{
-    DecimalDraft, EmptyDraft, IntegerDraft, MemberSlots, TimeDraft, UnitDraft, VariantDraft,
-};
+pub use members::{EmptyDraft, MemberSlots};
 pub use schema_trees::{have_lengths, is_one_tree, leaf_count};
 pub use unions::{Inside, UnionSlots, put_member};
