@@ -55,7 +55,7 @@ fn run<S: Shelf, I: Source, O: Sink>(
 /// | Words | What it does |
 /// |---|---|
 /// | `scan [--where FILTER] PATH..` | prints the matches of 1 to 64 paths in each document of the input on which the filter holds |
-/// | `variant [--offset-width N] [--id-width N]` | prints the metadata and the value of each document of the input as a Variant, in hex; its offsets and field ids take at least N bytes each; an N is one digit from 1 to 4, and 1 where it isn't given |
+/// | `variant [--offset-width N] [--id-width N]` | prints the metadata and the value of each document of the input as a Variant, in hex; its offsets and field ids take at least N bytes each; an N is a number from 1 to 4, of 1 to 10 digits, and 1 where it isn't given |
 ///
 /// | Status | Line on `err` | Where |
 /// |---|---|---|
