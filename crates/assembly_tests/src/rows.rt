@@ -1,6 +1,6 @@
 //! Rows of three columns, put together from their entries.
 
-ghost use Rattle.std.specs.Prelude.{◌≡◌, ◌+◌, true, false, length};
+ghost use Rattle.std.specs.Prelude.{◌≡◌, ◌+◌, false, length};
 ghost use Rattle.shred_schema.specs.Groups.{width};
 ghost use Rattle.shred_schema.specs.Lawful.{IsWellFormed};
 ghost use Rattle.shred_schema.specs.Ranges.{reads, none_read};
@@ -8,7 +8,7 @@ ghost use Rattle.shred_schema.specs.Views.{group_of};
 
 use crate::columns::{mask_of, numbers, plain, texts};
 use crate::feeding::{Pieces, feed_leaves, push_rows};
-use row_assembler::Assembler;
+use row_assembler::{Assembler, reads_any};
 use shred_schema::{Column, Mask, width};
 use std::alloc::Global;
 use std::test::Fail;
@@ -36,26 +36,13 @@ fn assembled(
     Ok(text)
 }
 
-// Whether some leaf is read.
-fn reads_any(mask: &Mask) -> bool
-    ensures { result ≡ true → none_read (reads mask.now) 0 (length mask.now) ≡ false }
-{
-    let read = mask.as_slice();
-    for leaf in 0..read.len() {
-        if read[leaf] {
-            return true;
-        }
-    }
-    false
-}
-
 // A row gives a mask and the entries of the leaves that it reads. In pieces of one entry they give the same rows.
 fn shown(alloc: Global, column: &Column, given: &str) -> Result<String, Wrong>
     requires { IsWellFormed (group_of column.now.node) }
 {
     let (bits, entries) = split_row(alloc, given)?;
     let mask = mask_of(alloc, bits)?;
-    if mask.len() != 1 + width(&column.node) || !reads_any(&mask) {
+    if mask.len() != 1 + width(&column.node) || !reads_any(mask.as_slice()) {
         return Err(Wrong::Parts(given.to_string(alloc)?));
     }
     let whole = assembled(alloc, column, &mask, entries, Pieces::Whole)?;
