@@ -1,5 +1,7 @@
 -- How refusals are told.
 use Rattle.std.specs.Prelude.{Option, None, Some, Result, Ok, Err}
+use Rattle.shelf.specs.declared.shelf.ShelfError.{ShelfError}
+use Rattle.shelf.specs.declared.shelf.ShelfError.TheVariants as shelf
 use Rattle.store_write.specs.declared.write_error.First.{First}
 use Rattle.store_write.specs.declared.write_error.First.TheVariants as first
 use Rattle.store_write.specs.declared.write_error.WriteError.{WriteError}
@@ -19,3 +21,8 @@ told_of (Err e) = Err (refusal_of e)
 abbrev pub refused_in : Result (Unit {0}) First → Option First
 refused_in (Ok done) = None
 refused_in (Err e) = Some e
+
+-- what a shelf answers to bytes at the end of a file
+abbrev pub added_error : ShelfError → WriteError
+added_error shelf.NoMemory = error.NoMemory
+added_error other = error.Failed

@@ -1,16 +1,24 @@
 //! A file that is written.
 
 ghost use Rattle.open_group.specs.Filling.{texts_limit};
-ghost use Rattle.std.specs.Prelude.{◌<◌};
+ghost use Rattle.std.specs.Prelude.{◌≡◌, ◌<◌, IfOk};
+ghost use Rattle.store_write.specs.Made.{orders_of};
+ghost use Rattle.store_write.specs.Refusals.{added_error};
 ghost use Rattle.std.specs.Option.{ForNone};
 
 use crate::group_closing::{add_row, end_file};
 use crate::write_error::{First, WriteError};
 use closed_groups::ClosedGroups;
 use json_tree::Tree;
-use open_group::OpenGroup;
-use shelf::Shelf;
-use vs_bytes::Text;
+use open_group::{OpenGroup, Settings};
+use shelf::{Shelf, ShelfError};
+use shred_schema::{Column, Node};
+use std::alloc::Global;
+use vs_bytes::{NoMemory, Sequence, Text};
+use written_columns::{SchemaPath, leaf_paths, schema_elements};
+
+/// The magic number.
+const MAGIC: &[u8] = b"PAR1";
 
 /// A file of one column of shredded Variants, which is written row by row.
 ///
@@ -24,13 +32,93 @@ pub struct FileWriter {
     ghost ready: { ForNone broken (open.texts < texts_limit) },
 }
 
+// Why bytes weren't added.
+fn added_error(refused: ShelfError) -> WriteError
+    ensures { result ≡ added_error refused }
+{
+    match refused {
+        ShelfError::NoMemory => WriteError::NoMemory,
+        _ => WriteError::Failed,
+    }
+}
+
+// The orders of leaves: each has TYPE_ORDER.
+fn type_orders(alloc: Global, paths: &[SchemaPath]) -> Result<Sequence<i32>, NoMemory>
+    ensures { IfOk result (λ orders. orders ≡ orders_of paths.now) }
+{
+    let mut orders = Sequence::new(alloc);
+    for _path in paths {
+        orders.push(1)?;
+    }
+    Ok(orders)
+}
+
 impl FileWriter {
-    ghost use Rattle.std.specs.Prelude.{◌≡◌, ◌∷◌, [], ◌++◌, List, Option, None, Err, true, IfSome, OnOk};
+    ghost use Rattle.std.specs.Prelude.{◌≡◌, ◌∷◌, [], ◌++◌, List, Option, None, Err, true, IfSome, IfOk, OnOk};
     ghost use Rattle.json_tree.specs.Json.{Json};
     ghost use Rattle.striping_laws.specs.Rows.{CanBeRow};
     ghost use Rattle.shelf.specs.Storage.{Has};
-    ghost use Rattle.open_group.specs.OpenGroups.{row_of};
-    ghost use Rattle.store_write.specs.Writers.{name_of, node_in, settings_in, broken_by, StandsIn, MadeIn, AddsRow, EndsFile, KeepsForm};
+    ghost use Rattle.shred_schema.specs.Views.{group_of};
+    ghost use Rattle.schema_parsing.specs.Grammar.{IsSchema};
+    ghost use Rattle.schema_parsing.specs.Canonical.{schema_text};
+    ghost use Rattle.closed_groups.specs.ClosedGroups.{magic};
+    ghost use Rattle.open_group.specs.OpenGroups.{row_of, IsSettings};
+    ghost use Rattle.store_write.specs.Writers.{name_of, node_in, settings_in, broken_by, Stands, StandsIn, MadeIn, Starts, error_of, AddsRow, EndsFile, IsFor, KeepsForm};
+
+    // A writer without rows, which has touched nothing.
+    fn new(alloc: Global, name: Text, node: Node, settings: Settings) -> Result<FileWriter, NoMemory>
+        requires schema { IsSchema (schema_text (group_of node)) (group_of node) }
+        requires settings { IsSettings settings }
+        ensures form { IfOk result (λ w. IsFor w name (group_of node) settings) }
+        ensures stands { IfOk result (λ w. Stands w magic []) }
+    {
+        let column = Column {
+            optional: true,
+            node,
+        };
+        let schema = schema_elements(alloc, &column, "doc")?;
+        let paths = leaf_paths(alloc, &column, "doc")?;
+        let orders = type_orders(alloc, paths.as_slice())?;
+        let closed = ClosedGroups::new(alloc, schema, orders)?;
+        let open = OpenGroup::new(alloc, column, paths, settings)?;
+        Ok(FileWriter {
+            name,
+            open,
+            closed,
+            broken: None,
+        })
+    }
+
+    /// Makes a new file, and a writer of it: of rows of a column that a schema describes.
+    pub fn start<S: Shelf>(
+        alloc: Global,
+        shelf: &mut S,
+        name: Text,
+        node: Node,
+        settings: Settings,
+    ) -> Result<FileWriter, WriteError>
+        requires schema { IsSchema (schema_text (group_of node)) (group_of node) }
+        requires settings { IsSettings settings }
+        ensures starts { Starts (S.seen shelf.old) (S.seen shelf.new) name (error_of result) }
+        ensures form { IfOk result (λ w. IsFor w name (group_of node) settings) }
+        ensures whole { IfOk result (λ w. broken_by w ≡ None) }
+        ensures stands { IfOk result (λ w. StandsIn (S.seen shelf.new).files w []) }
+    {
+        let writer = match FileWriter::new(alloc, name, node, settings) {
+            Ok(writer) => writer,
+            Err(_) => return Err(WriteError::NoMemory),
+        };
+        match shelf.create(&writer.name) {
+            Ok(()) => {}
+            Err(ShelfError::Taken) => return Err(WriteError::Taken),
+            Err(ShelfError::NoMemory) => return Err(WriteError::NoMemory),
+            Err(_) => return Err(WriteError::Failed),
+        }
+        match shelf.append(&writer.name, MAGIC) {
+            Ok(()) => Ok(writer),
+            Err(refused) => Err(added_error(refused)),
+        }
+    }
 
     /// Adds a row: a document, or none.
     ///

@@ -1,0 +1,17 @@
+use Rattle.shelf.proofs.Appending.{there_once_created}
+use Rattle.store_write.proofs.Starting.{started, start_refused, stands_started}
+use Rattle.store_write.proofs.file_writer.FileWriter.start.Goals as goal
+
+pub append-requires : goal.append-requires
+append-requires g c =
+    record { there = there_once_created (g.S.Shelf.seen c.args.shelf.now) (g.S.Shelf.seen c.create.new.self) c.in-Ok.writer.name c.in-Ok-create.ensures.creates }
+
+pub returns-in-Ok-append-clause-starts : goal.returns-in-Ok-append-clause-starts
+returns-in-Ok-append-clause-starts g c =
+    started (g.S.Shelf.seen c.args.shelf.now) (g.S.Shelf.seen c.create.new.self) (g.S.Shelf.seen c.append.new.self) c.args.name c.in-Ok.writer.name c.in-Ok.ensures.form.named c.in-Ok-create.ensures.creates c.in-Ok-append.ensures.adds
+
+pub returns-in-Ok-append-clause-stands : goal.returns-in-Ok-append-clause-stands
+returns-in-Ok-append-clause-stands g c =
+    stands_started c.in-Ok.writer (g.S.Shelf.seen c.args.shelf.now) (g.S.Shelf.seen c.append.new.self) c.args.name c.in-Ok.ensures.form.named
+      (started (g.S.Shelf.seen c.args.shelf.now) (g.S.Shelf.seen c.create.new.self) (g.S.Shelf.seen c.append.new.self) c.args.name c.in-Ok.writer.name c.in-Ok.ensures.form.named c.in-Ok-create.ensures.creates c.in-Ok-append.ensures.adds)
+      c.in-Ok.ensures.stands
