@@ -17,9 +17,8 @@ use Rattle.shred_schema.specs.declared.nodes.Slot.TheVariants.{Absent, Required,
 use Rattle.schema_elements.specs.declared.elements.SchemaElement.{SchemaElement}
 use Rattle.file_columns.specs.declared.places.Levels.{Levels}
 use Rattle.file_columns.specs.declared.places.PlacedLeaf.{PlacedLeaf}
-use Rattle.schema_elements.specs.SchemaTrees.{is_leaf}
 use Rattle.file_columns.specs.Elements.{is_at, is_required, is_optional, is_repeated, type_of, note_of, is_list_note, prim_of}
-use Rattle.schema_elements.specs.SchemaTrees.{own_leaf}
+use Rattle.schema_elements.specs.SchemaTrees.{is_leaf, own_leaf}
 use Rattle.file_columns.specs.Forests.{Forest, no_trees, tree, forest, leaf_count}
 
 -- an element, the elements inside it, and its place: how many leaves stand before it in the schema

@@ -9,14 +9,14 @@ use schema_elements::{Logical, SchemaElement};
 use shred_schema::Note;
 use vs_bytes::{Phys, Prim};
 
-// FieldRepetitionType.
+// FieldRepetitionType of parquet.thrift.
 const REQUIRED: u8 = 0;
 
 const OPTIONAL: u8 = 1;
 
 const REPEATED: u8 = 2;
 
-// Type.
+// Type of parquet.thrift.
 const BOOLEAN: i32 = 0;
 
 const INT32: i32 = 1;
@@ -30,6 +30,40 @@ const DOUBLE: i32 = 5;
 const BYTE_ARRAY: i32 = 6;
 
 const FIXED_LEN_BYTE_ARRAY: i32 = 7;
+
+// Members of the union LogicalType of parquet.thrift, by their ids.
+const LOGICAL_STRING: i16 = 1;
+
+const LOGICAL_LIST: i16 = 3;
+
+const LOGICAL_DECIMAL: i16 = 5;
+
+const LOGICAL_DATE: i16 = 6;
+
+const LOGICAL_TIME: i16 = 7;
+
+const LOGICAL_TIMESTAMP: i16 = 8;
+
+const LOGICAL_INTEGER: i16 = 10;
+
+const LOGICAL_UUID: i16 = 14;
+
+const LOGICAL_FLOAT16: i16 = 15;
+
+// ConvertedType of parquet.thrift.
+const CONVERTED_UTF8: i32 = 0;
+
+const CONVERTED_LIST: i32 = 3;
+
+const CONVERTED_DECIMAL: i32 = 5;
+
+const CONVERTED_INT_8: i32 = 15;
+
+const CONVERTED_INT_16: i32 = 16;
+
+const CONVERTED_INT_32: i32 = 17;
+
+const CONVERTED_INT_64: i32 = 18;
 
 fn is_at(number: u8, field: Option<i32>) -> bool
     ensures { result ≡ is_at number field }
@@ -73,7 +107,7 @@ fn count_in(field: Option<i32>) -> u32
 pub(crate) fn is_binary(element: &SchemaElement) -> bool
     ensures { result ≡ is_binary element.now }
 {
-    element.is_leaf() && is_at(6, element.kind)
+    element.is_leaf() && is_at(BYTE_ARRAY as u8, element.kind)
 }
 
 fn type_numbered(len: u32, number: i32) -> Phys
@@ -174,23 +208,23 @@ fn stamp_note(utc: Option<bool>, unit: Option<u8>) -> Note
 fn logical_note(logical: &Logical) -> Note
     ensures { result ≡ logical_note logical.now }
 {
-    if logical.member == 1 {
+    if logical.member == LOGICAL_STRING {
         Note::Text
-    } else if logical.member == 3 {
+    } else if logical.member == LOGICAL_LIST {
         Note::List
-    } else if logical.member == 5 {
+    } else if logical.member == LOGICAL_DECIMAL {
         decimal_note(byte_in(logical.second), byte_in(logical.first))
-    } else if logical.member == 6 {
+    } else if logical.member == LOGICAL_DATE {
         Note::Date
-    } else if logical.member == 7 {
+    } else if logical.member == LOGICAL_TIME {
         time_note(truth_in(logical.first), byte_in(logical.second))
-    } else if logical.member == 8 {
+    } else if logical.member == LOGICAL_TIMESTAMP {
         stamp_note(truth_in(logical.first), byte_in(logical.second))
-    } else if logical.member == 10 {
+    } else if logical.member == LOGICAL_INTEGER {
         integer_note(byte_in(logical.first), truth_in(logical.second))
-    } else if logical.member == 14 {
+    } else if logical.member == LOGICAL_UUID {
         Note::Uuid
-    } else if logical.member == 15 {
+    } else if logical.member == LOGICAL_FLOAT16 {
         Note::Float16
     } else {
         Note::Other
@@ -202,19 +236,19 @@ fn logical_note(logical: &Logical) -> Note
 fn converted_note(precision: Option<u8>, scale: Option<u8>, number: i32) -> Note
     ensures { result ≡ converted_note precision scale number }
 {
-    if number == 0 {
+    if number == CONVERTED_UTF8 {
         Note::Text
-    } else if number == 3 {
+    } else if number == CONVERTED_LIST {
         Note::List
-    } else if number == 5 {
+    } else if number == CONVERTED_DECIMAL {
         decimal_note(precision, scale)
-    } else if number == 15 {
+    } else if number == CONVERTED_INT_8 {
         signed_note(8)
-    } else if number == 16 {
+    } else if number == CONVERTED_INT_16 {
         signed_note(16)
-    } else if number == 17 {
+    } else if number == CONVERTED_INT_32 {
         signed_note(32)
-    } else if number == 18 {
+    } else if number == CONVERTED_INT_64 {
         signed_note(64)
     } else {
         Note::Other

@@ -8,6 +8,32 @@ use shred_schema::{Note, form_of};
 use std::alloc::Global;
 use vs_bytes::{NoMemory, Phys, Prim, Text};
 
+// Members of the union LogicalType of parquet.thrift, by their ids.
+const LOGICAL_STRING: i16 = 1;
+
+const LOGICAL_LIST: i16 = 3;
+
+const LOGICAL_DECIMAL: i16 = 5;
+
+const LOGICAL_INTEGER: i16 = 10;
+
+const LOGICAL_VARIANT: i16 = 16;
+
+// ConvertedType of parquet.thrift.
+const CONVERTED_UTF8: i32 = 0;
+
+const CONVERTED_LIST: i32 = 3;
+
+const CONVERTED_DECIMAL: i32 = 5;
+
+const CONVERTED_INT_8: i32 = 15;
+
+const CONVERTED_INT_16: i32 = 16;
+
+// The version of the Variant specification.
+const VARIANT_VERSION: i32 = 1;
+
+// The number of Type in parquet.thrift.
 fn type_number(phys: Phys) -> i32
     ensures { result ≡ pos (type_number phys) }
 {
@@ -62,11 +88,11 @@ fn logical_written(note: Note) -> Option<Logical>
     ensures { result ≡ logical_written note }
 {
     match note {
-        Note::Text => logical(1, None, None),
-        Note::List => logical(3, None, None),
-        Note::Decimal { p, s } => logical(5, Some(i32::from(s)), Some(i32::from(p))),
+        Note::Text => logical(LOGICAL_STRING, None, None),
+        Note::List => logical(LOGICAL_LIST, None, None),
+        Note::Decimal { p, s } => logical(LOGICAL_DECIMAL, Some(i32::from(s)), Some(i32::from(p))),
         Note::Integer { bits, signed } => {
-            logical(10, Some(i32::from(bits)), Some(truth(signed)))
+            logical(LOGICAL_INTEGER, Some(i32::from(bits)), Some(truth(signed)))
         }
         _ => None,
     }
@@ -76,9 +102,9 @@ fn integer_converted(bits: u8) -> Option<i32>
     ensures { result ≡ integer_converted bits }
 {
     if bits == 8 {
-        Some(15)
+        Some(CONVERTED_INT_8)
     } else if bits == 16 {
-        Some(16)
+        Some(CONVERTED_INT_16)
     } else {
         None
     }
@@ -88,9 +114,9 @@ fn converted_written(note: Note) -> Option<i32>
     ensures { result ≡ converted_written note }
 {
     match note {
-        Note::Text => Some(0),
-        Note::List => Some(3),
-        Note::Decimal { .. } => Some(5),
+        Note::Text => Some(CONVERTED_UTF8),
+        Note::List => Some(CONVERTED_LIST),
+        Note::Decimal { .. } => Some(CONVERTED_DECIMAL),
         Note::Integer { bits, .. } => integer_converted(bits),
         _ => None,
     }
@@ -199,6 +225,6 @@ pub(crate) fn column_element(
         converted_type: None,
         scale: None,
         precision: None,
-        logical_type: logical(16, Some(1), None),
+        logical_type: logical(LOGICAL_VARIANT, Some(VARIANT_VERSION), None),
     })
 }

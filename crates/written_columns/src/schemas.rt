@@ -11,6 +11,13 @@ use shred_schema::{Column, Node, Note, Slot, Typed, slot_width};
 use std::alloc::Global;
 use vs_bytes::{NoMemory, Prim, Sequence, Text};
 
+// FieldRepetitionType of parquet.thrift.
+const REQUIRED: u8 = 0;
+
+const OPTIONAL: u8 = 1;
+
+const REPEATED: u8 = 2;
+
 /// The schema of a file with one column: the root, the column of this name, and all inside it.
 pub fn schema_elements(alloc: Global, column: &Column, name: &str) -> Result<ElementList, NoMemory>
     ensures { IfOk result (λ list. list ≡ schema_elements column.now.optional name.now (group_of column.now.node)) }
@@ -19,7 +26,7 @@ pub fn schema_elements(alloc: Global, column: &Column, name: &str) -> Result<Ele
     into.push(root_element(alloc)?)?;
     let count = member_count(&column.node) + 1;
     into.push(column_element(alloc, column.optional, name, count)?)?;
-    into.push(leaf_element(alloc, Prim::Raw, 0, "metadata")?)?;
+    into.push(leaf_element(alloc, Prim::Raw, REQUIRED, "metadata")?)?;
     put_members(alloc, &column.node, &mut into)?;
     Ok(into)
 }
@@ -63,8 +70,8 @@ fn put_value(alloc: Global, value: Slot, into: &mut ElementList) -> Result<(), N
 {
     match value {
         Slot::Absent => Ok(()),
-        Slot::Required => into.push(leaf_element(alloc, Prim::Raw, 0, "value")?),
-        Slot::Optional => into.push(leaf_element(alloc, Prim::Raw, 1, "value")?),
+        Slot::Required => into.push(leaf_element(alloc, Prim::Raw, REQUIRED, "value")?),
+        Slot::Optional => into.push(leaf_element(alloc, Prim::Raw, OPTIONAL, "value")?),
     }
 }
 
@@ -74,7 +81,7 @@ fn put_typed(alloc: Global, typed: &Typed, into: &mut ElementList) -> Result<(),
 {
     match typed {
         Typed::Free => Ok(()),
-        Typed::Prim(prim) => into.push(leaf_element(alloc, *prim, 1, "typed_value")?),
+        Typed::Prim(prim) => into.push(leaf_element(alloc, *prim, OPTIONAL, "typed_value")?),
         Typed::Fields(fields) => put_object(alloc, fields.as_slice(), into),
         Typed::Items(node) => put_list(alloc, node.get(), into),
     }
@@ -88,7 +95,7 @@ fn put_object(
 ) -> Result<(), NoMemory>
     ensures { OnOk result (into.new ≡ into.old ++ group_element 1 typed_name (length fields.now) Note.None ∷ field_elements (groups_from (map named fields.now))) }
 {
-    let group = group_element(alloc, 1, "typed_value", fields.len(), Note::None)?;
+    let group = group_element(alloc, OPTIONAL, "typed_value", fields.len(), Note::None)?;
     into.push(group)?;
     put_fields(alloc, fields, into)
 }
@@ -97,9 +104,9 @@ fn put_object(
 fn put_list(alloc: Global, node: &Node, into: &mut ElementList) -> Result<(), NoMemory>
     ensures { OnOk result (into.new ≡ into.old ++ typed_elements (list_of (group_of node.now))) }
 {
-    into.push(group_element(alloc, 1, "typed_value", 1, Note::List)?)?;
-    into.push(group_element(alloc, 2, "list", 1, Note::None)?)?;
-    let element = group_element(alloc, 0, "element", member_count(node), Note::None)?;
+    into.push(group_element(alloc, OPTIONAL, "typed_value", 1, Note::List)?)?;
+    into.push(group_element(alloc, REPEATED, "list", 1, Note::None)?)?;
+    let element = group_element(alloc, REQUIRED, "element", member_count(node), Note::None)?;
     into.push(element)?;
     put_members(alloc, node, into)
 }
@@ -122,6 +129,6 @@ fn put_fields(
 fn put_field(alloc: Global, name: &str, node: &Node, into: &mut ElementList) -> Result<(), NoMemory>
     ensures { OnOk result (into.new ≡ into.old ++ field_elements (field name.now (group_of node.now) no_groups)) }
 {
-    into.push(group_element(alloc, 0, name, member_count(node), Note::None)?)?;
+    into.push(group_element(alloc, REQUIRED, name, member_count(node), Note::None)?)?;
     put_members(alloc, node, into)
 }
