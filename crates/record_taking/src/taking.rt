@@ -24,6 +24,9 @@ use sqlite_items::Items;
 use std::alloc::Global;
 use vs_bytes::{Absent, Refused};
 
+// For how many items a list has room at first: most have no more.
+const ITEM_ROOM: usize = 8;
+
 /// Takes a record of a node, whose leaves begin with `leaf`, and answers the leaf after them.
 ///
 /// `Absent` exactly where no record has the entries.
@@ -267,7 +270,7 @@ fn take_items(
         rep: levels.lists + 1,
         ..first
     };
-    let mut records = Vec::new(alloc);
+    let mut records = Vec::with_capacity(alloc, ITEM_ROOM)?;
     let (item, next) = take_record(alloc, cursors, leaf, element, first)?;
     records.push(item)?;
     while goes_on(cursors, leaf, levels.lists) {

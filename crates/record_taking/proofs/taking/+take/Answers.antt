@@ -75,12 +75,12 @@ take_fields-returns-clause-passed t c =
 
 pub take_items-returns-in_err-item-clause-read : goal.take_items-returns-in_err-item-clause-read
 take_items-returns-in_err-item-clause-read t c =
-    let p = err_from_is_err_and c.from_residual.result c.from_residual.ensures.1 in
+    let p = err_from_is_err_and c.from_residual-in_err-item.result c.from_residual-in_err-item.ensures.1 in
     rw (p.1, p.2) (fails c.in_err-item.field-0.0 _ _ c.in_err-item.ensures.read (λ none. list_first (group_of c.args.element.now) c.args.leaf c.args.levels.rep c.args.levels.lists c.args.levels.def c.args.cursors.now c.args.cursors.now None none (λ q e. cc)))
 
 pub take_items-loop-alloc-init : goal.take_items-loop-alloc-init
 take_items-loop-alloc-init t c = record {
-  read = first_taken c.new-records.result.items c.push.new.self.items c.in_ok-item.item _ _ c.new-records.ensures.items c.in_ok-push.ensures.items (list_first (group_of c.args.element.now) c.args.leaf c.args.levels.rep c.args.levels.lists c.args.levels.def c.args.cursors.now c.take_record.new.cursors (Some (rec_of c.in_ok-item.item)) c.in_ok-item.ensures.read (λ q e. c.in_ok-item.ensures.passed));
+  read = first_taken c.in_ok-records.records.items c.push.new.self.items c.in_ok-item.item _ _ c.in_ok-records.ensures.items c.in_ok-push.ensures.items (list_first (group_of c.args.element.now) c.args.leaf c.args.levels.rep c.args.levels.lists c.args.levels.def c.args.cursors.now c.take_record.new.cursors (Some (rec_of c.in_ok-item.item)) c.in_ok-item.ensures.read (λ q e. c.in_ok-item.ensures.passed));
   between = between_first (group_of c.args.element.now) c.args.leaf c.args.levels.lists c.args.cursors.now c.take_record.new.cursors c.in_ok-item.ensures.passed;
 }
 
