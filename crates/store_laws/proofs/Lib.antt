@@ -1,0 +1,14 @@
+pub mod Bodies
+pub mod Counts
+pub mod Cuts
+pub mod ElementsBack
+pub mod Files
+pub mod FooterShort
+pub mod GroupRows
+pub mod GroupsBack
+pub mod MadeFiles
+pub mod NodeNames
+pub mod Opens
+pub mod PathsBack
+pub mod Readable
+pub mod StandingChunks

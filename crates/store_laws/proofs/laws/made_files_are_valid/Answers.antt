@@ -1,0 +1,11 @@
+use Rattle.store_laws.proofs.MadeFiles.{file_valid, file_column, file_honest}
+use Rattle.store_laws.proofs.laws.made_files_are_valid.Goals as goal
+
+pub returns-clause-valid : goal.returns-clause-valid
+returns-clause-valid c = file_valid
+
+pub returns-clause-column : goal.returns-clause-column
+returns-clause-column c = λ settings text n rows file opened chosen schema documents is opens_as. file_column settings text n rows file chosen schema documents is opened opens_as
+
+pub returns-clause-honest : goal.returns-clause-honest
+returns-clause-honest c = file_honest
