@@ -3,6 +3,7 @@ PROGRAM = crates/vstore/out/vstore
 COST = crates/variant_cost/out/variant_cost
 COLUMN_COST = crates/column_cost/out/column_cost
 STRIPING_COST = crates/striping_cost/out/striping_cost
+SHREDDING_COST = crates/shredding_cost/out/shredding_cost
 PREFIX ?= /usr/local
 
 .PHONY: demo build install test check fmt bench
@@ -24,4 +25,5 @@ bench: build        ## times the program on generated data, beside its peers
 	@cd crates/variant_cost && rt run -- view 0 < stdin > /dev/null
 	@cd crates/column_cost && rt run -- runs 0 > /dev/null
 	@cd crates/striping_cost && rt run -- stripe-lists 0 > /dev/null
-	@COST=$(COST) COLUMN_COST=$(COLUMN_COST) STRIPING_COST=$(STRIPING_COST) bench/run.sh $(PROGRAM)
+	@cd crates/shredding_cost && rt run -- shred 0 variant < stdin > /dev/null
+	@COST=$(COST) COLUMN_COST=$(COLUMN_COST) STRIPING_COST=$(STRIPING_COST) SHREDDING_COST=$(SHREDDING_COST) bench/run.sh $(PROGRAM)

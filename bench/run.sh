@@ -6,13 +6,14 @@
 #
 # The environment may name the program `variant_cost` as COST: then reading Variant bytes is counted too. And it may name
 # the program `column_cost` as COLUMN_COST: then so are the values of columns. And `striping_cost` as STRIPING_COST: then so
-# are the entries of rows.
+# are the entries of rows. And `shredding_cost` as SHREDDING_COST: then so is shredding.
 set -eu
 here=$(cd "$(dirname "$0")" && pwd)
 program=$(realpath "$1")
 cost=${COST:-}
 column_cost=${COLUMN_COST:-}
 striping_cost=${STRIPING_COST:-}
+shredding_cost=${SHREDDING_COST:-}
 shift
 sizes=${*:-10 100}
 work=$(mktemp -d)
@@ -178,6 +179,36 @@ if command -v valgrind > /dev/null; then
                 python3 -c "print(f'| assemble-$what | $count | {($both - $base - ($split - $start)) / $count:.1f} |')"
             done
         done
+    fi
+
+    # records shredded by a schema, and read again; start-up and what is made once taken off
+    if [ -n "$shredding_cost" ]; then
+        echo
+        echo "| record, schema | bytes | instructions per byte: shred | read |"
+        echo "|---|---|---|---|"
+        shreds() { valgrind --tool=callgrind --callgrind-out-file=/dev/null "$shredding_cost" "$1" "$2" "$3" < "$work/in" 2>&1 > "$work/out" | awk '/Collected/ {print $4}'; }
+        shredded_row() {
+            local shape=$1 fits=$2 schema=$3 cost=""
+            python3 "$here/generate.py" "$shape" 1 > "$work/in"
+            for what in shred read; do
+                cost="$cost $(( $(shreds $what 1000 "$schema") - $(shreds $what 0 "$schema") ))"
+            done
+            bytes=$(awk '{print $1}' "$work/out")
+            python3 -c "print('| $shape, $fits fits | $bytes |' + ' |'.join(f' {int(n) / 1000 / $bytes:.1f}' for n in '$cost'.split()) + ' |')"
+        }
+        counts() { python3 -c "print(','.join(f'c{k:02}:' + ('string' if k % $1 else 'int64') for k in range(24)))"; }
+        shredded_row records all '{id:int64,ts:string,user:{name:string,age:int8},amount:decimal(9,2),tags:[string]}'
+        shredded_row records half '{id:int64,ts:int64,user:{name:string,age:boolean},amount:boolean,tags:[string]}'
+        shredded_row records none '{id:string,ts:int64,user:[int8],amount:boolean,tags:{x:int8}}'
+        shredded_row records variant variant
+        shredded_row kilo all "{id:int64,ts:string,site:string,room:string,rack:string,owner:string,model:string,note:string,$(counts 1),places:[{x:decimal(9,2),y:decimal(9,2),at:string}],tags:[string],values:[int16],ok:boolean,alarm:variant}"
+        shredded_row kilo half "{id:int64,ts:int64,site:string,room:int8,rack:string,owner:int8,model:string,note:int8,$(counts 2),places:[{x:decimal(9,2),y:string,at:int8}],tags:[int8],values:[int16],ok:boolean,alarm:variant}"
+        shredded_row kilo variant variant
+        # one leaf of a row of 50: the typed part of the field in the middle
+        fields="{$(python3 -c "print(','.join(f'c{k:02}:int64' for k in range(24)))")}"
+        echo '{"c12":7}' > "$work/in"
+        echo
+        echo "one leaf of a row of 50: $(( ($(shreds 27 1000 "$fields") - $(shreds 27 0 "$fields")) / 1000 )) instructions"
     fi
 
     # filters of growing size: of terms, of brackets, and of spaces; no input
