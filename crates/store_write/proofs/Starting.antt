@@ -51,7 +51,7 @@ mutual
   typed_short (object_of gs) way h = fields_short gs (way ++ typed_name ∷ []) (omega (arith, length-append way (typed_name ∷ [])))
   typed_short (list_of n) way h =
       members_short n (((way ++ typed_name ∷ []) ++ list_name ∷ []) ++ element_name ∷ [])
-        (omega (arith, length-append ((way ++ typed_name ∷ []) ++ list_name ∷ []) (element_name ∷ []), length-append (way ++ typed_name ∷ []) (list_name ∷ []), length-append way (typed_name ∷ [])))
+      (omega (arith, length-append ((way ++ typed_name ∷ []) ++ list_name ∷ []) (element_name ∷ []), length-append (way ++ typed_name ∷ []) (list_name ∷ []), length-append way (typed_name ∷ [])))
 
   fields_short : (gs : Groups) (way : Path) → length way + (3 * groups_nesting gs + 2) < 2 ^ 32 → AllByRecursion IsShortPath (field_paths gs way)
   fields_short no_groups way h = tt
@@ -81,7 +81,7 @@ pub fresh_stands : (column : Column) (settings : Settings) (schema : List Schema
     → schema ≡ schema_of (group_of column.node) → orders ≡ orders_of (paths_of (group_of column.node)) → paths ≡ paths_of (group_of column.node) → StandsBy g.settings (node_of g) g c magic []
 fresh_stands column settings schema orders paths g c g_is c_is a b p =
     subst (λ (x : Open). StandsBy x.settings (node_of x) x c magic []) (sym g_is)
-      (subst (λ (y : Closed). StandsBy settings (group_of column.node) (record { column = column; paths = paths; settings = settings; rows = []; texts = 0 }) y magic []) (sym c_is) (fresh column settings schema orders paths a b p))
+    (subst (λ (y : Closed). StandsBy settings (group_of column.node) (record { column = column; paths = paths; settings = settings; rows = []; texts = 0 }) y magic []) (sym c_is) (fresh column settings schema orders paths a b p))
 
 -- a file that was made, with its first bytes
 appended_created : (files : Option Files) (name bytes : List ℕ) → appended (with_file files name []) name bytes ≡ with_file files name bytes
@@ -92,7 +92,7 @@ appended_created (Some m) name bytes =
 pub started : (before made after : Storage) (name own : List ℕ) → own ≡ name → Creates before made own (Ok tt) → Adds made after own magic (Ok tt) → Starts before after name None
 started before made after name own is creates adds =
     subst (λ (x : List ℕ). Starts before after x None) is
-      (creates.0, adds ∙ ap (λ (s : Storage). record s { files = appended s.files own magic }) creates.1 ∙ ap (λ (f : Option Files). record before { files = f }) (appended_created before.files own magic))
+    (creates.0, adds ∙ ap (λ (s : Storage). record s { files = appended s.files own magic }) creates.1 ∙ ap (λ (f : Option Files). record before { files = f }) (appended_created before.files own magic))
 
 pub start_refused : (before made after : Storage) (name own : List ℕ) (e : ShelfError) (told : WriteError) → own ≡ name → told ≡ added_error e → Creates before made own (Ok tt) → Adds made after own magic (Err e)
     → Starts before after name (Some told)
@@ -112,4 +112,4 @@ stands_started w before after name is starts stands = by before.files refl
     by : (files : Option Files) → before.files ≡ files → StandsIn after.files w []
     by None e = subst (λ (o : Option Files). StandsIn o w []) (sym (ap (λ (s : Storage). s.files) starts.1 ∙ ap (λ (o : Option Files). with_file o name magic) e)) tt
     by (Some m) e = subst (λ (o : Option Files). StandsIn o w []) (sym (ap (λ (s : Storage). s.files) starts.1 ∙ ap (λ (o : Option Files). with_file o name magic) e))
-      (magic, ap (get (insert m name magic)) is ∙ get_inserted m name magic, stands)
+        (magic, ap (get (insert m name magic)) is ∙ get_inserted m name magic, stands)

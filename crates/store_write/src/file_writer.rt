@@ -60,13 +60,18 @@ impl FileWriter {
     ghost use Rattle.shelf.specs.Storage.{Has};
     ghost use Rattle.shred_schema.specs.Views.{group_of};
     ghost use Rattle.schema_parsing.specs.Grammar.{IsSchema};
-    ghost use Rattle.schema_parsing.specs.Canonical.{schema_text};
+    ghost use Rattle.schema_parsing.specs.Canonical.{schema_text, HasText};
     ghost use Rattle.closed_groups.specs.ClosedGroups.{magic};
     ghost use Rattle.open_group.specs.OpenGroups.{row_of, IsSettings};
     ghost use Rattle.store_write.specs.Writers.{name_of, node_in, settings_in, broken_by, Stands, StandsIn, MadeIn, Starts, error_of, AddsRow, EndsFile, IsFor, KeepsForm};
 
     // A writer without rows, which has touched nothing.
-    fn new(alloc: Global, name: Text, node: Node, settings: Settings) -> Result<FileWriter, NoMemory>
+    fn new(
+        alloc: Global,
+        name: Text,
+        node: Node,
+        settings: Settings,
+    ) -> Result<FileWriter, NoMemory>
         requires schema { IsSchema (schema_text (group_of node)) (group_of node) }
         requires settings { IsSettings settings }
         ensures form { IfOk result (λ w. IsFor w name (group_of node) settings) }
@@ -97,7 +102,7 @@ impl FileWriter {
         node: Node,
         settings: Settings,
     ) -> Result<FileWriter, WriteError>
-        requires schema { IsSchema (schema_text (group_of node)) (group_of node) }
+        requires schema { HasText (group_of node) }
         requires settings { IsSettings settings }
         ensures starts { Starts (S.seen shelf.old) (S.seen shelf.new) name (error_of result) }
         ensures form { IfOk result (λ w. IsFor w name (group_of node) settings) }

@@ -43,7 +43,7 @@ pub fn close_group<S: Shelf>(
     } = written;
     match closed.close(metas, size, rows) {
         Ok(()) => {}
-        Err(Unclosed::TooLong(len)) => return Err(First::FooterFull(len)),
+        Err(Unclosed::TooLong(len)) => return Err(First::FooterFull { length: len }),
         Err(Unclosed::NoMemory) => return Err(First::NoMemory),
     }
     group.clear();

@@ -12,7 +12,7 @@ pub enum First {
     /// The shelf failed.
     Failed,
     /// The footer would be so long with the group that closes.
-    FooterFull(u64),
+    FooterFull { length: u64 },
     /// There was no memory.
     NoMemory,
 }
@@ -28,7 +28,7 @@ pub enum WriteError {
     Failed,
     /// The footer would be so long with the group that closes, in bytes.
     #[error("footer too long")]
-    FooterFull(u64),
+    FooterFull { length: u64 },
     /// There was no memory.
     #[error("out of memory")]
     NoMemory,
@@ -44,7 +44,7 @@ impl First {
     {
         match self {
             First::Failed => WriteError::Failed,
-            First::FooterFull(len) => WriteError::FooterFull(len),
+            First::FooterFull { length } => WriteError::FooterFull { length },
             First::NoMemory => WriteError::NoMemory,
         }
     }

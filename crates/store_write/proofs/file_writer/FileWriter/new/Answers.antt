@@ -40,5 +40,5 @@ returns-clause-stands c =
     record {
       whole = refl;
       stands = fresh_stands (record { optional = true; node = c.args.node }) c.args.settings c.in_ok-schema.schema c.in_ok-orders.orders c.in_ok-paths.paths c.in_ok-open.open c.in_ok-closed.closed
-        c.in_ok-open.ensures c.in_ok-closed.ensures c.in_ok-schema.ensures (c.in_ok-orders.ensures ∙ ap orders_of (c.as_slice.ensures ∙ c.in_ok-paths.ensures)) c.in_ok-paths.ensures;
+          c.in_ok-open.ensures c.in_ok-closed.ensures c.in_ok-schema.ensures (c.in_ok-orders.ensures ∙ ap orders_of (c.as_slice.ensures ∙ c.in_ok-paths.ensures)) c.in_ok-paths.ensures;
     }
