@@ -3,12 +3,15 @@
 //!
 //! | Module | What it calls |
 //! |---|---|
+//! | `columns` | the column of a name |
 //! | `elements` | schema elements and logical types |
 //! | `footers` | whole footers |
 //! | `opening` | files that are opened |
 //! | `written` | footers that are written |
 #![tactic(auto)]
 
+#[cfg(test)]
+mod columns;
 #[cfg(test)]
 mod elements;
 #[cfg(test)]
