@@ -1,5 +1,7 @@
 -- Where leaves stand among those that are read.
 use Rattle.std.proofs.Common.{◌≡◌, ◌∙◌, refl, sym, ap, subst, ℕ, zero, suc, ◌+◌, ◌-◌, ◌<◌, ◌≤◌, ◌⊎◌, inl, inr, ◌∷◌, [], ◌++◌, List, length, slice_index_or, Bool, true, false, cond, Option, Some, None, arith}
+use Rattle.std.specs.Vec.{with_items}
+use Rattle.std.specs.declared.vec.Vec.{Vec}
 use Rattle.vs_bytes.specs.declared.leaf_columns.Entry.{Entry}
 use Rattle.shred_schema.specs.Groups.{Group, width, height}
 use Rattle.shred_schema.specs.Lawful.{HasLeaves, IsWellFormed}
@@ -129,3 +131,28 @@ new_for a o n mask optional meta node len some are count = record {
 -- a leaf that the mask reads can be fed
 pub read_leaf : (a : Assembly) (o : Bool) (n : Group) (mask : List Bool) (j : ℕ) → IsFor a o n mask → j < 1 + width n → reads mask j ≡ true → is_there (slice_index_or a.places j None) ≡ true
 read_leaf a o n mask j f h read = ap is_there (f.places_are j (among_from j 0 (1 + width n) (omega arith) (omega (arith, h))) ∙ ap (λ (b : Bool). cond b (Some (place (reads mask) j)) None) read)
+
+-- leaves that have other entries stand at the same places
+same_sound : (meta : Bool) (node : Node) (places : List (Option ℕ)) (before after : List (List Entry)) → length after ≡ length before → IsSound meta node places before → IsSound meta node places after
+same_sound meta node places before after same s = record {
+  some = omega (arith, same, s.some);
+  has_leaves = s.has_leaves;
+  all = same ∙ s.all;
+  short = omega (arith, same, s.short);
+  deep = s.deep;
+  inside = λ j p h. omega (arith, same, s.inside j p h);
+  apart = s.apart;
+}
+
+pub kept_sound : {Z : Type 0} (meta : Bool) (node : Node) (places : List (Option ℕ)) (cursors : Vec (List Entry) Z) (after : List (List Entry)) → IsSound meta node places cursors.items → IsSound meta node places (with_items cursors after).items
+kept_sound meta node places cursors after s = same_sound meta node places cursors.items (with_items cursors after).items (sym (with_items cursors after).ok.0 ∙ cursors.ok.0) s
+
+-- one more leaf without entries
+pub empty_more : (xs ys : List (List Entry)) (x : List Entry) → ys ≡ xs ++ x ∷ [] → x ≡ [] → ((j : ℕ) → slice_index_or xs j [] ≡ []) → (j : ℕ) → slice_index_or ys j [] ≡ []
+empty_more xs ys x made none are j = ap (λ zs. slice_index_or zs j []) made ∙ by xs j are
+  where
+    by : (zs : List (List Entry)) (i : ℕ) → ((k : ℕ) → slice_index_or zs k [] ≡ []) → slice_index_or (zs ++ x ∷ []) i [] ≡ []
+    by [] zero h = none
+    by [] (suc i) h = refl
+    by (z ∷ zs) zero h = h 0
+    by (z ∷ zs) (suc i) h = by zs i (λ k. h (suc k))
