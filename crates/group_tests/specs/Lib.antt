@@ -1,0 +1,2 @@
+-- the rows of the test's group
+pub mod Given
