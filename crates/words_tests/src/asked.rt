@@ -28,8 +28,7 @@ fn load_text(alloc: Global, load: &LoadCommand) -> Result<String, AllocError> {
         Typed::Free => "free",
         _ => "typed",
     };
-    format!(
-        in alloc;
+    format!(in alloc;
         "{} {schema} {} {} {} {}",
         load.out.as_str(),
         load.widths.offset_width,
@@ -45,8 +44,7 @@ fn query_text(alloc: Global, query: &QueryCommand) -> Result<String, AllocError>
     } else {
         "all"
     };
-    format!(
-        in alloc;
+    format!(in alloc;
         "{} of {}, {filter}, {}",
         query.column.as_str(),
         query.file.as_str(),
