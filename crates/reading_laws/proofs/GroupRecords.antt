@@ -24,7 +24,7 @@ use Rattle.reading_laws.proofs.LeavesSeen.{listed, leaf_listed, all_leaves_seen}
 use Rattle.reading_laws.proofs.RowsSeen.{seen_as_read}
 use Rattle.reading_laws.proofs.Whole.{all_seen, rows_shown}
 
-meant_the_same : (mask : ℕ → Bool) (n : Group) (k : ℕ) (rows : List RowRec) → ReadsAll mask n → rows_meant mask n k rows ≡ rows_meant every n k rows
+pub meant_the_same : (mask : ℕ → Bool) (n : Group) (k : ℕ) (rows : List RowRec) → ReadsAll mask n → rows_meant mask n k rows ≡ rows_meant every n k rows
 unfolding rows_meant
 meant_the_same mask n k [] all = refl
 meant_the_same mask n k (x ∷ xs) all =

@@ -1,5 +1,6 @@
 pub mod GroupRecords
 pub mod LeavesSeen
+pub mod RecordsSeen
 pub mod RowsSeen
 pub mod SameMasks
 pub mod SeenAgain

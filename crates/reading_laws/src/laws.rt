@@ -21,8 +21,10 @@ ghost use Rattle.record_assembly.specs.Reading.{rows_read};
 ghost use Rattle.record_assembly.specs.Shown.{shown, row_shown};
 ghost use Rattle.striping_laws.specs.Rows.{AreWritten, texts_len, max_texts_len};
 ghost use Rattle.unshredder.specs.Rows.{row_seen, row_of};
+ghost use Rattle.group_reading.specs.ChunkEntries.{has_rows};
 ghost use Rattle.group_reading.specs.GroupRows.{rows_seen, group_seen};
 ghost use Rattle.reading_laws.specs.Documents.{IsDocument, shredded_rows};
+ghost use Rattle.reading_laws.specs.GroupRecords.{HasRecords};
 ghost use Rattle.reading_laws.specs.FullMasks.{ReadsAll};
 ghost use Rattle.reading_laws.specs.RowsMeant.{rows_meant, rows_of};
 ghost use Rattle.reading_laws.specs.WrittenChunks.{written_chunk_entries};
@@ -54,6 +56,13 @@ pub fn rows_are_seen_as_read()
 /// Where each leaf is read, and the chunks give the stripes of records, the rows of a group are what these records mean.
 pub fn groups_have_their_records()
     ensures { (mask : ℕ → Bool) (optional : Bool) (n : Group) (records : List RowRec) (chunk : ℕ → Result (List Entry) Rule) → ReadsAll mask n → IsWellFormed n → AllByRecursion (RowIsOf optional n) records → ((j : ℕ) → is_among j 0 (1 + width n) ≡ true → chunk j ≡ Ok (stripes optional n records j)) → group_seen mask optional n (length records) chunk ≡ rows_of n records }
+{}
+
+/// The rows that a group gives, where each leaf is read and each chunk has as many rows as the group, are what records
+/// of the column mean, whose stripes the chunks have. There is one list of them.
+pub fn seen_rows_have_records()
+    ensures there { (mask : ℕ → Bool) (optional : Bool) (n : Group) (count : ℕ) (chunk : ℕ → Result (List Entry) Rule) (rows : List (Option Json)) → ReadsAll mask n → IsWellFormed n → ((j : ℕ) (entries : List Entry) → is_among j 0 (1 + width n) ≡ true → chunk j ≡ Ok entries → has_rows count entries ≡ true) → group_seen mask optional n count chunk ≡ Ok rows → HasRecords optional n count chunk rows }
+    ensures one { (optional : Bool) (n : Group) (count : ℕ) (chunk : ℕ → Result (List Entry) Rule) (rows others : List (Option Json)) → IsWellFormed n → (a : HasRecords optional n count chunk rows) (b : HasRecords optional n count chunk others) → a.records ≡ b.records }
 {}
 
 /// A row group that is written of documents is read back: their records mean the documents, each chunk has the stripes

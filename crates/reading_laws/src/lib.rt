@@ -9,6 +9,6 @@
 mod laws;
 
 pub use laws::{
-    full_masks_read_all, groups_have_their_records, rows_are_seen_as_read, shapes_stay,
-    shown_rows_are_seen_alike, written_groups_read_back,
+    full_masks_read_all, groups_have_their_records, rows_are_seen_as_read, seen_rows_have_records,
+    shapes_stay, shown_rows_are_seen_alike, written_groups_read_back,
 };
