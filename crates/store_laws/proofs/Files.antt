@@ -18,9 +18,10 @@ use Rattle.store_write.specs.Made.{column_name, paths_of, chunks_of, struct_of, 
 use Rattle.reading_laws.specs.FullMasks.{ReadsAll}
 use Rattle.store_laws.specs.Accuracy.{IsAccurateGroup}
 use Rattle.store_laws.specs.FileRows.{in_group, rows_in}
+use Rattle.store_laws.specs.ValidFiles.{HasRanges}
 use Rattle.store_laws.proofs.Bodies.{Rows, bytes_of, metas_of}
 use Rattle.store_laws.proofs.Cuts.{IsSmall, joined}
-use Rattle.store_laws.proofs.GroupRows.{IsWrittenColumn, IsWrittenGroup, group_rows, group_accurate}
+use Rattle.store_laws.proofs.GroupRows.{IsWrittenColumn, IsWrittenGroup, group_rows, group_accurate, group_ranges}
 
 pub ways_are : (n : Group) → length (paths_of n) ≡ length (column_leaves true n)
 ways_are n = paths_counted column_name n ∙ sym (column_leaf_count true n)
@@ -71,4 +72,11 @@ module _ (settings : Settings) (text : List ℕ) (n : Group) (column : FileColum
   all_accurate (g ∷ gs) place front follow small = (
     group_accurate settings text n g (paths_of n) column file place end chosen schema is (first_group g gs place front follow small.0),
     all_accurate gs (place + length (concat (chunks_of settings n (records_of settings n g)))) (front ++ concat (chunks_of settings n (records_of settings n g))) (later_groups g gs place front follow) small.1,
+  )
+
+  pub all_ranges : (gs : List Rows) (place : ℕ) (front : List ℕ) → Follow gs place front → AllByRecursion IsSmall gs → AllByRecursion (HasRanges n end column) (metas_of (format settings n) place gs)
+  all_ranges [] place front follow small = tt
+  all_ranges (g ∷ gs) place front follow small = (
+    group_ranges settings text n g (paths_of n) column file place end chosen schema is (first_group g gs place front follow small.0),
+    all_ranges gs (place + length (concat (chunks_of settings n (records_of settings n g)))) (front ++ concat (chunks_of settings n (records_of settings n g))) (later_groups g gs place front follow) small.1,
   )

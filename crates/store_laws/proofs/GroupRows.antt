@@ -38,6 +38,7 @@ use Rattle.reading_laws.specs.Documents.{IsDocument}
 use Rattle.reading_laws.specs.FullMasks.{ReadsAll}
 use Rattle.reading_laws.proofs.WrittenGroups.{schema_well_formed, documents_can_be, group_comes_back, chunk_comes_back}
 use Rattle.store_laws.specs.Accuracy.{IsAccurateGroup}
+use Rattle.store_laws.specs.ValidFiles.{HasRanges}
 use Rattle.store_laws.proofs.Readable.{IsReadLeaf, leaf_is_read, range_is}
 use Rattle.store_laws.proofs.StandingChunks.{Stands, chunk_stands}
 
@@ -125,3 +126,18 @@ module _ (settings : Settings) (text : List ℕ) (n : Group) (rows : List (Optio
       let s = stands_at j inside in
       subst (λ (found : Option ChunkMeta). IfSome found (λ chunk. IfSome chunk.meta_data (λ meta. IfSome meta.statistics (λ stats. (es : List Entry) → nth_seen end column group j file ≡ Ok es → AreAccurate es stats)))) (sym s.is)
       (λ es given. let same : stripes true n (records_of settings n rows) j ≡ es = ok_same (stripes true n (records_of settings n rows) j) es (sym (nth_is j inside) ∙ given) in record { nulls = ap null_count same; bounds = tt })
+
+  pub group_ranges : HasRanges n end column (struct_of settings n paths place (records_of settings n rows))
+  group_ranges j inside =
+      let s = stands_at j inside in
+      let leaf : Leaf = get_or (column_leaves true n) j no_leaf in
+      let chunk : List ℕ = chunk_written leaf settings.page_bytes (stripes true n (records_of settings n rows) j) in
+      let own : leaf_at column j ≡ leaf = ap (λ (leaves : List Leaf). get_or leaves j no_leaf) is.leaves in
+      record {
+        chunk = chunk_meta leaf s.path s.at (length chunk) (stripes true n (records_of settings n rows) j);
+        range = (s.at, length chunk);
+        there = s.is;
+        is_range = ap (λ (l : Leaf). chunk_range (chunk_meta leaf s.path s.at (length chunk) (stripes true n (records_of settings n rows) j)) l end) own
+            ∙ range_is end leaf s.path s.at (length chunk) (stripes true n (records_of settings n rows) j) (leaf_is_read true n j no_leaf (schema_written text n schema) (there j inside)) (omega (arith, s.after, g.low)) (omega (arith, s.before, g.high))
+            (omega (arith, chunk_short true n (texts_len rows) (records_of settings n rows) j settings.page_bytes no_leaf are g.few chosen.pages (there j inside)));
+      }

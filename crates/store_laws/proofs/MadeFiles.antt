@@ -37,13 +37,13 @@ use Rattle.thrift_footer.specs.declared.opening.Opened.{Opened}
 use Rattle.reading_laws.specs.Documents.{IsDocument}
 use Rattle.reading_laws.proofs.WrittenGroups.{schema_well_formed}
 use Rattle.store_laws.specs.Accuracy.{IsAccurateGroup}
-use Rattle.store_laws.specs.ValidFiles.{IsValid, IsHonest}
+use Rattle.store_laws.specs.ValidFiles.{IsValid, IsHonest, HasRanges, AllInRange}
 use Rattle.store_laws.proofs.Bodies.{Rows, bytes_of, metas_of, IsMade, made_has}
 use Rattle.store_laws.proofs.Counts.{bytes_few, rows_counted}
 use Rattle.store_laws.proofs.Cuts.{IsSmall, AreGroups, groups_are}
 use Rattle.store_laws.proofs.ElementsBack.{elements_back}
 use Rattle.store_laws.proofs.FooterShort.{short_footer}
-use Rattle.store_laws.proofs.Files.{Follow, all_rows, all_accurate}
+use Rattle.store_laws.proofs.Files.{Follow, all_rows, all_accurate, all_ranges}
 use Rattle.store_laws.proofs.GroupRows.{IsWrittenColumn}
 use Rattle.store_laws.proofs.GroupsBack.{size_fits, same_number, both_pass, groups_back, have_chunks}
 use Rattle.store_laws.proofs.NodeNames.{IsNamed, plain_named, schema_named}
@@ -185,3 +185,15 @@ module _ (settings : Settings) (text : List ℕ) (n : Group) (rows : List (Optio
   pub file_column : (other : Opened) → opening file ≡ Ok other → column_of other.meta.schema column_name (orders_in other.meta.column_orders) ≡ Ok view
   file_column other opens_as =
       subst (λ (o : Opened). column_of o.meta.schema column_name (orders_in o.meta.column_orders) ≡ Ok view) (ok_opened opened_as other (sym file_opens ∙ opens_as)) column_is
+
+  ranges : (column : FileColumn) → shown column ≡ view → AllByRecursion (HasRanges (shown column).node (begin_of (length file) (length foot)) column) meta.row_groups
+  ranges column same =
+      subst (λ (v : ColumnView). AllByRecursion (HasRanges v.node (begin_of (length file) (length foot)) column) meta.row_groups) (sym same)
+      (all_ranges settings text n column file (ending_of foot) (begin_of (length file) (length foot)) chosen schema (read_column column same) groups 4 magic (follow column (read_column column same)) are.small)
+
+  pub file_ranges : AllInRange file column_name
+  file_ranges other column opens_as has =
+      subst (λ (o : Opened). column_of o.meta.schema column_name (orders_in o.meta.column_orders) ≡ Ok (shown column) → AllByRecursion (HasRanges (shown column).node o.end column) o.meta.row_groups)
+      (ok_opened opened_as other (sym file_opens ∙ opens_as))
+      (λ found. ranges column (ok_view (shown column) view (sym found ∙ column_is)))
+      has

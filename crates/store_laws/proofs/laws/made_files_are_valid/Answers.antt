@@ -1,4 +1,4 @@
-use Rattle.store_laws.proofs.MadeFiles.{file_valid, file_column, file_honest}
+use Rattle.store_laws.proofs.MadeFiles.{file_valid, file_column, file_honest, file_ranges}
 use Rattle.store_laws.proofs.laws.made_files_are_valid.Goals as goal
 
 pub returns-clause-valid : goal.returns-clause-valid
@@ -9,3 +9,6 @@ returns-clause-column c = λ settings text n rows file opened chosen schema docu
 
 pub returns-clause-honest : goal.returns-clause-honest
 returns-clause-honest c = file_honest
+
+pub returns-clause-ranges : goal.returns-clause-ranges
+returns-clause-ranges c = file_ranges
