@@ -31,22 +31,22 @@ pub fn stripe(alloc: Global, column: &Column, rows: &RowList) -> Result<Stripes,
     ensures leaves { IfOk result (λ s. length s ≡ 1 + width (group_of column.now.node)) }
     ensures stripes { IfOk result (λ s. (j : ℕ) → slice_index_or s j [] ≡ stripes column.now.optional (group_of column.now.node) (map row_rec_of rows.now) j) }
 {
-    let mut leaves = empty_leaves(alloc, 1 + width(&column.node))?;
     let records = rows.as_slice();
+    let mut leaves = empty_leaves(alloc, 1 + width(&column.node), records.len())?;
     for row in records {
         put_row(alloc, &mut leaves, column, row)?;
     }
     Ok(Sequence::from_vec(leaves))
 }
 
-/// So many leaves without entries.
-fn empty_leaves(alloc: Global, count: usize) -> Result<Vec<EntryList>, NoMemory>
+/// So many leaves without entries, each with memory for `room` of them: each row has one at least.
+fn empty_leaves(alloc: Global, count: usize, room: usize) -> Result<Vec<EntryList>, NoMemory>
     ensures leaves { IfOk result (λ v. length v.items ≡ count) }
     ensures empty { IfOk result (λ v. (j : ℕ) → slice_index_or v.items j [] ≡ []) }
 {
-    let mut leaves = Vec::new(alloc);
+    let mut leaves = Vec::with_capacity(alloc, count)?;
     for _leaf in 0..count {
-        leaves.push(Sequence::new(alloc))?;
+        leaves.push(Sequence::with_capacity(alloc, room)?)?;
     }
     Ok(leaves)
 }
