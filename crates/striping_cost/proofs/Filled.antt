@@ -1,5 +1,5 @@
 -- Records that are filled field by field and item by item, and columns of schemas.
-use Rattle.std.proofs.Common.{◌≡◌, ◌∙◌, refl, sym, ap, subst, ℕ, zero, suc, ◌+◌, ◌<◌, ◌≤◌, List, [], ◌∷◌, ◌++◌, length, map, drop, get_or, true, ℤ, pos, rules, arith}
+use Rattle.std.proofs.Common.{◌≡◌, ◌∙◌, refl, sym, ap, subst, ℕ, zero, suc, ◌+◌, ◌<◌, ◌≤◌, List, [], ◌∷◌, ◌++◌, length, map, drop, get_or, true, pos, rules, arith}
 use Rattle.std.specs.List.{AllByRecursion}
 use Rattle.std.proofs.lemmas.List.{map-append}
 use Rattle.exact_num.specs.Unscaled.{half}
@@ -9,7 +9,7 @@ use Rattle.vs_bytes.specs.declared.leaf_columns.PrimKind.TheVariants as prim
 use Rattle.shred_schema.specs.Cells.{is_of_prim}
 use Rattle.shred_schema.specs.declared.records.Part.{the_lemmas}
 use Rattle.shred_schema.specs.declared.records.Part.TheVariants as part
-use Rattle.shred_schema.specs.Groups.{Group, Groups, scalar, no_groups, field, groups_from, groups_height, height}
+use Rattle.shred_schema.specs.Groups.{Group, Groups, scalar, groups_from, groups_height, height}
 use Rattle.shred_schema.specs.Lawful.{IsWellFormed}
 use Rattle.shred_schema.specs.Recs.{Rec, RecPart, cell, Recs, no_recs, recs, recs_from, EachRec}
 use Rattle.shred_schema.specs.Shapes.{IsOf, PartIsOf, FieldsAreOf}

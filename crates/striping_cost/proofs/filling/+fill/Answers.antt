@@ -1,7 +1,7 @@
 use Rattle.std.proofs.Common.{◌≡◌, ◌∙◌, sym, ap, subst, map, List, arith}
-use Rattle.shred_schema.specs.Groups.{Groups, Kind, list_of, groups_from, groups_height}
-use Rattle.shred_schema.specs.Recs.{RecPart, EachRec, recs_from}
-use Rattle.shred_schema.specs.Shapes.{IsOf, PartIsOf, FieldsAreOf}
+use Rattle.shred_schema.specs.Groups.{Groups, list_of, groups_from, groups_height}
+use Rattle.shred_schema.specs.Recs.{recs_from}
+use Rattle.shred_schema.specs.Shapes.{FieldsAreOf}
 use Rattle.shred_schema.specs.Views.{group_of, kind_of, groups_of, named, rec_of}
 use Rattle.shred_schema.specs.declared.records.Record.{Record}
 use Rattle.shred_schema.proofs.Viewed.{fields_are, kind_is_list}
