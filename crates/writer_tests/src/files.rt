@@ -1,0 +1,48 @@
+//! Files of few rows.
+
+use schema_parsing::parse_schema;
+use shelf::MemShelf;
+use std::alloc::Global;
+use std::process::Abort;
+use std::test::Fail;
+use store_write::{FileWriter, First, Settings, WriteError};
+use variant_write::Widths;
+use vs_bytes::Text;
+
+const EMPTY: [u8; 94] = [
+    0x50, 0x41, 0x52, 0x31, 0x15, 0x02, 0x19, 0x4c, 0x48, 0x06, 0x73, 0x63, 0x68, 0x65, 0x6d, 0x61,
+    0x15, 0x02, 0x00, 0x35, 0x02, 0x18, 0x03, 0x64, 0x6f, 0x63, 0x15, 0x04, 0x5c, 0x0c, 0x20, 0x13,
+    0x01, 0x00, 0x00, 0x00, 0x15, 0x0c, 0x25, 0x00, 0x18, 0x08, 0x6d, 0x65, 0x74, 0x61, 0x64, 0x61,
+    0x74, 0x61, 0x00, 0x15, 0x0c, 0x25, 0x00, 0x18, 0x05, 0x76, 0x61, 0x6c, 0x75, 0x65, 0x00, 0x16,
+    0x00, 0x19, 0x0c, 0x28, 0x08, 0x76, 0x73, 0x74, 0x6f, 0x72, 0x65, 0x20, 0x31, 0x19, 0x2c, 0x1c,
+    0x00, 0x00, 0x1c, 0x00, 0x00, 0x00, 0x52, 0x00, 0x00, 0x00, 0x50, 0x41, 0x52, 0x31,
+];
+
+fn name_of(alloc: Global) -> Result<Text, Fail> {
+    Ok(Text::from_str(alloc, "a")?)
+}
+
+// The bytes that stand in the file.
+fn check_bytes(rt: &impl Abort, shelf: &MemShelf, name: &Text, wanted: &[u8]) {
+    match shelf.bytes(name) {
+        Some(bytes) => assert!(rt; bytes == wanted),
+        None => assert!(rt; false),
+    }
+}
+
+const SETTINGS: Settings = Settings {
+    widths: Widths { offset: 1, id: 1 },
+    page_bytes: 1_048_576,
+    group_rows: 10_000,
+};
+
+// A file of no rows: the magic number, the footer alone with its length, and the magic number.
+#[test]
+fn an_empty_file_is_a_footer_between_magic_numbers(rt: HostRuntime) -> Result<(), Fail> {
+    let mut shelf = MemShelf::new(rt.alloc(), Vec::new(rt.alloc()));
+    let node = parse_schema(rt.alloc(), "variant")?;
+    let writer = FileWriter::start(rt.alloc(), &mut shelf, name_of(rt.alloc())?, node, SETTINGS)?;
+    writer.finish(&mut shelf)?;
+    check_bytes(&rt, &shelf, &name_of(rt.alloc())?, &EMPTY);
+    Ok(())
+}
