@@ -1,5 +1,5 @@
 -- One more group is closed.
-use Rattle.std.proofs.Common.{◌≡◌, ◌∙◌, ℕ, ◌+◌, ◌*◌, ◌^◌, ◌<◌, ◌≤◌, List, [], ◌∷◌, ◌++◌, length, pos, ℤ, Result, Ok, Err, Some, None, sym, ap, subst, refl, arith}
+use Rattle.std.proofs.Common.{◌≡◌, ◌∙◌, ℕ, ◌+◌, ◌*◌, ◌^◌, ◌<◌, ◌≤◌, List, [], ◌∷◌, ◌++◌, length, pos, ℤ, Ok, Err, sym, ap, subst, refl, arith}
 use Rattle.std.specs.Prelude.{unsigned_abs}
 use Rattle.std.specs.List.{flat_map, AllByRecursion}
 use Rattle.std.proofs.lemmas.List.{length-append}
@@ -17,7 +17,7 @@ use Rattle.footer_structs.specs.declared.file_metadata.FileMeta.{FileMeta}
 use Rattle.closed_groups.specs.ClosedGroups.{footer_limit, file_meta, group_meta, Closed, meta_of, with_group, Closes, meta_with, PutsGroup, orders_in, IsSound}
 use Rattle.closed_groups.specs.declared.group_list.Unclosed.{Unclosed}
 use Rattle.closed_groups.specs.declared.group_list.Unclosed.TheVariants.{TooLong, NoMemory}
-use Rattle.closed_groups.proofs.FooterSizes.{group_more, groups_some, groups_within}
+use Rattle.closed_groups.proofs.FooterSizes.{group_more, groups_within}
 
 rows_more : (gs : List GroupMeta) (g : GroupMeta) → total_rows (gs ++ g ∷ []) ≡ total_rows gs + unsigned_abs g.num_rows
 unfolding total_rows

@@ -1,11 +1,10 @@
 -- Rows that are gathered, with one more.
-use Rattle.std.proofs.Common.{◌≡◌, ◌∙◌, ℕ, ◌+◌, ◌-◌, ◌^◌, ◌<◌, ◌≤◌, min, Bool, true, List, [], ◌∷◌, ◌++◌, length, map, Option, None, Some, Result, Ok, Err, OnOk, OnErr, sym, ap, subst, refl, arith, add_assoc}
+use Rattle.std.proofs.Common.{◌≡◌, ◌∙◌, ℕ, ◌+◌, ◌-◌, ◌^◌, ◌<◌, ◌≤◌, min, true, List, [], ◌∷◌, ◌++◌, map, Option, None, Some, Result, Ok, Err, OnOk, OnErr, sym, ap, subst, refl, arith}
 use Rattle.json_tree.specs.Json.{Json}
-use Rattle.json_tree.specs.Text.{text_of}
 use Rattle.variant_write.specs.Conditions.{IsWidths, max_text_len}
 use Rattle.variant_write.specs.declared.widths.Widths.{Widths}
 use Rattle.shred_schema.specs.Groups.{Group}
-use Rattle.shred_schema.specs.Lawful.{AllWritten, IsWellFormed}
+use Rattle.shred_schema.specs.Lawful.{IsWellFormed}
 use Rattle.shred_schema.specs.Recs.{RowRec}
 use Rattle.shred_schema.specs.Shapes.{RowIsOf}
 use Rattle.std.proofs.lemmas.List.{map-append}
@@ -17,7 +16,7 @@ use Rattle.shred_schema.proofs.NodeFacts.{written_are_nodes}
 use Rattle.schema_parsing.specs.Grammar.{IsSchema}
 use Rattle.schema_parsing.proofs.WrittenNodes.{schema_written}
 use Rattle.shredder.specs.Shredded.{shred_row}
-use Rattle.striping_laws.specs.Rows.{AreWritten, CanBeRow, text_len, max_texts_len}
+use Rattle.striping_laws.specs.Rows.{CanBeRow, text_len}
 use Rattle.open_group.specs.Filling.{row_count, rows_count, texts_limit}
 use Rattle.open_group.specs.OpenGroups.{AreGathered}
 use Rattle.striping_laws.proofs.WrittenRows.{none_written, more_written}

@@ -1,5 +1,5 @@
 -- The structs of a group that is written have bytes, and its chunks are short.
-use Rattle.std.proofs.Common.{◌≡◌, ◌∙◌, ℕ, suc, ◌+◌, ◌*◌, ◌^◌, ◌<◌, ◌≤◌, Bool, true, List, [], ◌∷◌, length, get_or, sym, ap, subst, refl, arith, add-one}
+use Rattle.std.proofs.Common.{◌≡◌, ℕ, suc, ◌+◌, ◌*◌, ◌^◌, ◌<◌, ◌≤◌, true, List, [], ◌∷◌, length, get_or, ap, subst, refl, arith}
 use Rattle.std.specs.List.{AllByRecursion}
 use Rattle.std.proofs.lemmas.List.Sums.{sum_by-cons, count_by-le-length}
 use Rattle.std.proofs.lemmas.List.Elements.{All-from_recursion}
@@ -9,8 +9,7 @@ use Rattle.vs_bytes.specs.declared.leaf_columns.Leaf.{Leaf}
 use Rattle.chunks.specs.PageCuts.{chunk_written}
 use Rattle.thrift_structs.specs.Listed.{ListFits}
 use Rattle.thrift_structs.specs.ChunkWriting.{ChunkFits}
-use Rattle.thrift_structs.specs.declared.column_chunks.ChunkMeta.{ChunkMeta}
-use Rattle.shred_schema.specs.Groups.{Group, width}
+use Rattle.shred_schema.specs.Groups.{Group}
 use Rattle.shred_schema.specs.Lawful.{IsWellFormed}
 use Rattle.shred_schema.specs.Leaves.{column_leaves}
 use Rattle.shred_schema.specs.Recs.{RowRec}

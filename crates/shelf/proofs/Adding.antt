@@ -1,5 +1,5 @@
 -- What appends leave, one after another.
-use Rattle.std.proofs.Common.{◌≡◌, ◌∙◌, ℕ, suc, ◌+◌, ◌≤◌, List, [], ◌∷◌, ◌++◌, length, take, drop, Some, Err, Ok, sym, ap, subst, refl, append_assoc, append-nil, add-one, get_or, ◌<◌, arith, length-append, IsSome}
+use Rattle.std.proofs.Common.{◌≡◌, ◌∙◌, ℕ, suc, ◌+◌, ◌≤◌, List, [], ◌∷◌, ◌++◌, length, take, drop, Some, Err, sym, ap, subst, refl, append_assoc, append-nil, add-one, get_or, ◌<◌, arith, length-append, IsSome}
 use Rattle.std.proofs.lemmas.List.{take-append-le, take_more, take-append-drop}
 use Rattle.std.proofs.Math.Seq.{take-append-add, drop-cons}
 use Rattle.std.specs.FinMap.{get}
@@ -9,7 +9,7 @@ use Rattle.shelf.specs.declared.shelf.ShelfError.TheVariants.{Absent, Taken, Fai
 use Rattle.shelf.specs.declared.tally.Counts.{Counts}
 use Rattle.shelf.specs.declared.byte_range.ByteRange.{ByteRange}
 use Rattle.shelf.specs.Storage.{Files, Storage, Has, appended, FailsWrite}
-use Rattle.shelf.specs.Calls.{Adds, with_prefix, IsCounted}
+use Rattle.shelf.specs.Calls.{Adds, with_prefix}
 use Rattle.shelf.specs.Memory.{GainsPrefix}
 use Rattle.shelf.proofs.Appending.{appended_none, appended_again}
 

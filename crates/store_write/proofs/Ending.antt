@@ -1,6 +1,5 @@
 -- The end of a file.
-use Rattle.std.proofs.Common.{◌≡◌, ◌∙◌, ℕ, ◌+◌, ◌<◌, ◌≤◌, List, [], ◌∷◌, ◌++◌, length, take, map, Bool, true, cond, Option, None, Some, Result, Ok, Err, inl, inr, sym, ap, subst, refl, arith, append-nil, append_assoc}
-use Rattle.std.specs.Prelude.{◌⊎◌}
+use Rattle.std.proofs.Common.{◌≡◌, ◌∙◌, ℕ, ◌<◌, List, [], ◌∷◌, ◌++◌, length, Option, None, Some, Result, Ok, Err, inl, inr, sym, ap, subst, refl, arith, append-nil, append_assoc}
 use Rattle.std.specs.List.{concat}
 use Rattle.std.proofs.lemmas.List.{length-append, take-append-le}
 use Rattle.std.proofs.Math.Seq.{take-append_seam}
@@ -22,7 +21,7 @@ use Rattle.shelf.specs.declared.shelf.ShelfError.{ShelfError}
 use Rattle.shelf.specs.declared.shelf.ShelfError.TheVariants as shelf
 use Rattle.shelf.proofs.Appending.{has_appended}
 use Rattle.shelf.proofs.Adding.{adds_later, adds_more}
-use Rattle.store_write.specs.Writers.{chunks_with, closed_with, IsClosed, Closes, left_chunks, left_closed, end_bytes, IsShortEnd, EndsWith, Finishes, StandsBy, StandsIn, MadeIn, settings_in, node_in}
+use Rattle.store_write.specs.Writers.{chunks_with, closed_with, IsClosed, Closes, end_bytes, IsShortEnd, EndsWith, Finishes, StandsBy, StandsIn, MadeIn, settings_in, node_in}
 use Rattle.store_write.specs.declared.write_error.First.{First}
 use Rattle.store_write.specs.declared.write_error.First.TheVariants as first
 

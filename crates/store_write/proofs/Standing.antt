@@ -1,8 +1,7 @@
 -- What stands after one more row.
-use Rattle.std.proofs.Common.{◌≡◌, ◌∙◌, ℕ, ◌+◌, ◌<◌, ◌≤◌, List, [], ◌∷◌, ◌++◌, length, map, Bool, true, false, cond, Option, None, Some, Result, Ok, Err, unwrap_or, sym, ap, subst, refl, arith, nat_le, ℤ}
-use Rattle.std.specs.Prelude.{fold, MatchBool}
+use Rattle.std.proofs.Common.{◌≡◌, ◌∙◌, ℕ, ◌+◌, ◌≤◌, List, [], ◌∷◌, ◌++◌, length, map, Bool, true, false, cond, Option, None, Some, Result, Ok, Err, unwrap_or, sym, ap, subst, refl, arith, nat_le, ℤ}
+use Rattle.std.specs.Prelude.{MatchBool}
 use Rattle.std.specs.FinMap.{get, insert}
-use Rattle.std.specs.Option.{option_map}
 use Rattle.std.proofs.lemmas.List.{map-append, length-append, length-map}
 use Rattle.std.proofs.lemmas.List.Sums.{fold-append, sum_by-cons}
 use Rattle.std.proofs.lemmas.Bool.Decides.{nat_tests}
@@ -22,13 +21,13 @@ use Rattle.group_writing.specs.GroupChunks.{Path, chunks_size}
 use Rattle.open_group.specs.declared.settings.Settings.{Settings}
 use Rattle.open_group.specs.Filling.{is_full, is_full_by, rows_count, records_of}
 use Rattle.open_group.specs.OpenGroups.{Open, records_in, node_of, KeepsColumn}
-use Rattle.closed_groups.specs.ClosedGroups.{Closed, meta_of, with_group, footer_size, footer_limit, file_meta}
+use Rattle.closed_groups.specs.ClosedGroups.{Closed, meta_of, footer_size, footer_limit, file_meta}
 use Rattle.shelf.specs.Storage.{Files, Storage, appended}
 use Rattle.shelf.proofs.Appending.{get_inserted}
 use Rattle.store_write.specs.Cutting.{Cut, with_row, cut_of}
-use Rattle.store_write.specs.Frames.{Format, Body, begun, close, closed, body_of}
+use Rattle.store_write.specs.Frames.{Format, Body, begun, close, body_of}
 use Rattle.store_write.specs.Made.{format, schema_of, paths_of, orders_of, chunks_of, struct_of}
-use Rattle.store_write.specs.Writers.{StandsBy, Stands, StandsIn, chunks_with, closed_with, IsClosed, records_with, texts_with, is_full_with, IsKept, Pushes, settings_in, node_in}
+use Rattle.store_write.specs.Writers.{StandsBy, StandsIn, chunks_with, closed_with, IsClosed, records_with, texts_with, is_full_with, IsKept, Pushes}
 use Rattle.store_write.specs.declared.file_writer.FileWriter.{FileWriter}
 
 -- one more row is cut

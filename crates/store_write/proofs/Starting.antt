@@ -1,14 +1,14 @@
 -- A file that begins.
-use Rattle.std.proofs.Common.{◌≡◌, ◌∙◌, ℕ, ◌+◌, ◌*◌, ◌^◌, ◌<◌, ◌≤◌, max, Bool, true, List, [], ◌∷◌, ◌++◌, length, map, ℤ, pos, Ok, Err, Option, None, Some, unwrap_or, inr, sym, ap, subst, refl, arith}
+use Rattle.std.proofs.Common.{◌≡◌, ◌∙◌, ℕ, ◌+◌, ◌*◌, ◌^◌, ◌<◌, true, List, [], ◌∷◌, ◌++◌, length, ℤ, pos, Ok, Err, Option, None, Some, unwrap_or, inr, sym, ap, subst, refl, arith}
 use Rattle.std.specs.List.{AllByRecursion}
 use Rattle.std.proofs.lemmas.List.{length-append, length-map}
-use Rattle.shred_schema.specs.Groups.{Group, group, Kind, free, scalar, object_of, list_of, Groups, no_groups, field, nesting, kind_nesting, groups_nesting, width}
-use Rattle.shred_schema.specs.Lawful.{AllWritten, IsWellFormed}
+use Rattle.shred_schema.specs.Groups.{Group, group, Kind, free, scalar, object_of, list_of, Groups, no_groups, field, nesting, kind_nesting, groups_nesting}
+use Rattle.shred_schema.specs.Lawful.{IsWellFormed}
 use Rattle.shred_schema.specs.Leaves.{column_leaves}
 use Rattle.shred_schema.specs.declared.nodes.Slot.{Slot}
 use Rattle.shred_schema.specs.declared.nodes.Slot.TheVariants.{Absent, Required, Optional}
 use Rattle.shred_schema.proofs.NodeFacts.{column_leaf_count}
-use Rattle.written_columns.specs.Written.{schema_elements, value_paths, member_paths, typed_paths, field_paths, column_paths, metadata_name, value_name, typed_name, list_name, element_name}
+use Rattle.written_columns.specs.Written.{value_paths, member_paths, typed_paths, field_paths, value_name, typed_name, list_name, element_name}
 use Rattle.written_columns.proofs.Ways.{paths_counted}
 use Rattle.group_writing.specs.GroupChunks.{Path}
 use Rattle.open_group.specs.OpenGroups.{IsShortPath}

@@ -1,4 +1,4 @@
-use Rattle.std.proofs.Common.{◌∙◌, ap, sym, subst, take, drop, ◌+◌, ◌++◌, List, ℕ, Err}
+use Rattle.std.proofs.Common.{◌∙◌, ap, sym, subst, take, drop, ◌+◌, List, ℕ, Err}
 use Rattle.std.specs.List.{concat}
 use Rattle.shelf.specs.Storage.{Has, Storage, appended}
 use Rattle.shelf.specs.Calls.{Adds}

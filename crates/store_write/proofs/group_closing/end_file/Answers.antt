@@ -1,4 +1,4 @@
-use Rattle.std.proofs.Common.{arith, map, length}
+use Rattle.std.proofs.Common.{arith}
 use Rattle.std.proofs.lemmas.List.{length-map}
 use Rattle.shred_schema.specs.Views.{row_rec_of}
 use Rattle.open_group.specs.OpenGroups.{records_in}

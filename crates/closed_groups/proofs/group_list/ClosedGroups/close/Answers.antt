@@ -1,4 +1,4 @@
-use Rattle.std.proofs.Common.{◌∙◌, ap, length, subst, ◌+◌, Ok, Err, Result}
+use Rattle.std.proofs.Common.{◌∙◌, ap, length, subst, ◌+◌, Ok, Err}
 use Rattle.footer_structs.specs.FooterWriting.{group_bytes}
 use Rattle.footer_structs.specs.declared.row_groups.GroupMeta.{GroupMeta}
 use Rattle.closed_groups.specs.ClosedGroups.{Closed, Closes, PutsGroup, group_meta}

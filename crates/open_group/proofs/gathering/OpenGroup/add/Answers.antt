@@ -1,4 +1,4 @@
-use Rattle.std.proofs.Common.{◌+◌, ◌<◌, subst, sym, ap, length, map, Bool, true}
+use Rattle.std.proofs.Common.{◌+◌, ◌<◌, subst, sym, ap, length, Bool, true}
 use Rattle.level_striping.specs.Counts.{leaf_sum}
 use Rattle.level_striping.specs.Entries.{row_entries}
 use Rattle.shred_schema.specs.Groups.{width}

@@ -1,4 +1,4 @@
-use Rattle.std.proofs.Common.{arith, map, length}
+use Rattle.std.proofs.Common.{arith, map}
 use Rattle.std.proofs.lemmas.List.{length-map}
 use Rattle.shred_schema.specs.Views.{group_of, row_rec_of}
 use Rattle.open_group.proofs.Sizes.{rows_within}

@@ -1,4 +1,4 @@
-use Rattle.std.proofs.Common.{◌≡◌, ◌∙◌, ◌^◌, ◌<◌, List, ℤ, length, true, subst, sym, ap, refl}
+use Rattle.std.proofs.Common.{◌∙◌, ◌^◌, ◌<◌, List, ℤ, length, true, subst, sym, ap, refl}
 use Rattle.std.specs.List.{AllByRecursion}
 use Rattle.shred_schema.specs.Views.{group_of}
 use Rattle.schema_parsing.specs.Canonical.{schema_text}

@@ -1,7 +1,7 @@
 use Rattle.shred_schema.specs.Views.{group_of}
 use Rattle.schema_parsing.proofs.Canonical.{canonical_is_schema}
 use Rattle.shelf.proofs.Appending.{there_once_created}
-use Rattle.store_write.proofs.Starting.{started, start_refused, stands_started}
+use Rattle.store_write.proofs.Starting.{started, stands_started}
 use Rattle.store_write.proofs.file_writer.FileWriter.start.Goals as goal
 
 pub append-requires : goal.append-requires
