@@ -1,0 +1,2 @@
+-- the lines of a query over a row group in its file
+pub mod GroupLines
