@@ -8,7 +8,7 @@ ghost use Rattle.group_tests.specs.Given.{variant};
 use crate::given::{METADATA, VALUES, column};
 use file_columns::FileColumn;
 use footer_structs::GroupMeta;
-use group_lines::{RowTrees, collect_rows, print_rows};
+use group_lines::RowTrees;
 use json_tree::Tree;
 use path_query::parse_path;
 use query_tree::{PathList, Query};
@@ -17,7 +17,7 @@ use shred_schema::{Mask, leaves};
 use std::alloc::Global;
 use std::process::Abort;
 use std::test::Fail;
-use store_read::read_group;
+use store_rows::{print_group, read_rows};
 use thrift_structs::{ChunkMeta, ColumnMeta};
 use vs_bytes::{Bytes, NoMemory, Sequence, Text};
 
@@ -118,8 +118,8 @@ fn rows_read(
 ) -> Option<RowTrees>
     requires { CanRead column.now mask.now }
 {
-    match read_group(alloc, shelf, name, FOOTER_PLACE, column, group, mask) {
-        Ok(rows) => collect_rows(alloc, rows, &column.column, mask).ok(),
+    match read_rows(alloc, shelf, name, FOOTER_PLACE, column, group, mask) {
+        Ok(rows) => Some(rows),
         Err(_) => None,
     }
 }
@@ -137,13 +137,18 @@ fn lines_read(
     requires { CanRead column.now mask.now }
 {
     let mut lines = Vec::new(alloc);
-    match read_group(alloc, shelf, name, FOOTER_PLACE, column, group, mask) {
-        Ok(rows) => {
-            let _printed = print_rows(alloc, &mut lines, rows, &column.column, mask, query);
-            lines
-        }
-        Err(_) => lines,
-    }
+    let _printed = print_group(
+        alloc,
+        &mut lines,
+        shelf,
+        name,
+        FOOTER_PLACE,
+        column,
+        group,
+        mask,
+        query,
+    );
+    lines
 }
 
 fn whole_rows(alloc: Global) -> Result<Query, Fail> {
