@@ -1,2 +1,2 @@
--- which statistics are accurate, and those that are built
+-- which statistics are accurate, bounds included, and those that are built
 pub mod Accurate

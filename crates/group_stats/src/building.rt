@@ -1,6 +1,6 @@
 //! Statistics built from entries.
 
-ghost use Rattle.std.specs.Prelude.{◌≡◌, IfOk};
+ghost use Rattle.std.specs.Prelude.{◌≡◌, Bool, IfOk};
 ghost use Rattle.group_stats.specs.Accurate.{null_count, stats_of, AreAccurate};
 
 use std::alloc::Global;
@@ -18,7 +18,7 @@ fn null_count(entries: &[Entry]) -> u64
 /// Only memory can fail.
 pub fn build(_alloc: Global, _leaf: &Leaf, entries: &[Entry]) -> Result<Stats, NoMemory>
     ensures exact { IfOk result (λ stats. stats ≡ stats_of entries.now) }
-    ensures accurate { IfOk result (λ stats. AreAccurate entries.now stats) }
+    ensures accurate { IfOk result (λ stats. (ordered : Bool) → AreAccurate _leaf.now ordered entries.now stats) }
 {
     Ok(Stats {
         nulls: Some(null_count(entries)),

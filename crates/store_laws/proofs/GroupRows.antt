@@ -37,7 +37,7 @@ use Rattle.store_write.specs.Made.{chunks_of, struct_of}
 use Rattle.reading_laws.specs.Documents.{IsDocument}
 use Rattle.reading_laws.specs.FullMasks.{ReadsAll}
 use Rattle.reading_laws.proofs.WrittenGroups.{schema_well_formed, documents_can_be, group_comes_back, chunk_comes_back}
-use Rattle.store_laws.specs.Accuracy.{IsAccurateGroup}
+use Rattle.store_laws.specs.Accuracy.{is_ordered_at, IsAccurateGroup}
 use Rattle.store_laws.specs.ValidFiles.{HasRanges}
 use Rattle.store_laws.proofs.Readable.{IsReadLeaf, leaf_is_read, range_is}
 use Rattle.store_laws.proofs.StandingChunks.{Stands, chunk_stands}
@@ -124,8 +124,8 @@ module _ (settings : Settings) (text : List ℕ) (n : Group) (rows : List (Optio
   group_accurate j inside =
       let group : GroupMeta = struct_of settings n paths place (records_of settings n rows) in
       let s = stands_at j inside in
-      subst (λ (found : Option ChunkMeta). IfSome found (λ chunk. IfSome chunk.meta_data (λ meta. IfSome meta.statistics (λ stats. (es : List Entry) → nth_seen end column group j file ≡ Ok es → AreAccurate es stats)))) (sym s.is)
-      (λ es given. let same : stripes true n (records_of settings n rows) j ≡ es = ok_same (stripes true n (records_of settings n rows) j) es (sym (nth_is j inside) ∙ given) in record { nulls = ap null_count same; bounds = tt })
+      subst (λ (found : Option ChunkMeta). IfSome found (λ chunk. IfSome chunk.meta_data (λ meta. IfSome meta.statistics (λ stats. (es : List Entry) → nth_seen end column group j file ≡ Ok es → AreAccurate (leaf_at column j) (is_ordered_at column j) es stats)))) (sym s.is)
+      (λ es given. let same : stripes true n (records_of settings n rows) j ≡ es = ok_same (stripes true n (records_of settings n rows) j) es (sym (nth_is j inside) ∙ given) in record { nulls = ap null_count same; least = tt; greatest = tt; enclosed = λ ordered. tt })
 
   pub group_ranges : HasRanges n end column (struct_of settings n paths place (records_of settings n rows))
   group_ranges j inside =
