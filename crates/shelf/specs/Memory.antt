@@ -1,11 +1,14 @@
 -- What a shelf in memory shows: all of its files.
-use Rattle.std.specs.Prelude.{◌≡◌, ℕ, ◌+◌, ◌-◌, ◌<◌, ◌≤◌, ◌^◌, min, List, map, length, take, Some, Contains}
+use Rattle.std.specs.Prelude.{◌≡◌, ℕ, ◌+◌, ◌-◌, ◌<◌, ◌≤◌, ◌^◌, min, List, map, length, take, Some, Result, Ok, Err, Contains}
 use Rattle.std.specs.FinMap.{from_entries, get}
 use Rattle.std.specs.Global.{Vec}
 use Rattle.std.specs.BTreeMap.{BTreeMap}
-use Rattle.shelf.specs.Storage.{Files, Storage, appended}
+use Rattle.shelf.specs.Storage.{Files, Storage, appended, absence_more, clash_more}
 use Rattle.shelf.specs.declared.call_plan.CallPlan.{CallPlan}
 use Rattle.shelf.specs.declared.memory.MemShelf.{MemShelf}
+use Rattle.shelf.specs.declared.shelf.ShelfError.{ShelfError}
+use Rattle.shelf.specs.declared.shelf.ShelfError.TheVariants.{Absent, Taken, Failed, NoMemory}
+use Rattle.shelf.specs.declared.tally.Counts.{Counts}
 
 -- the files of a map
 abbrev pub shown : BTreeMap (List ℕ) (Vec ℕ) → Files
@@ -39,3 +42,12 @@ pub record GainsPrefix (m n : Files) (name bytes : List ℕ) : Type 0 where
   pub count : ℕ
   pub within : count ≤ length bytes
   pub gained : Some n ≡ appended (Some m) name (take count bytes)
+
+-- The counts after a call, by its answer: a refusal raises its own count by one, and no other answer raises any. A call
+-- that fails is a read fault or a write fault, by its kind.
+abbrev pub counts_past : {A : Type 0} → (Counts → Counts) → Counts → Result A ShelfError → Counts
+counts_past failed counts (Ok a) = counts
+counts_past failed counts (Err Absent) = absence_more counts
+counts_past failed counts (Err Taken) = clash_more counts
+counts_past failed counts (Err Failed) = failed counts
+counts_past failed counts (Err NoMemory) = counts

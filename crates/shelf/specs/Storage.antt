@@ -1,5 +1,5 @@
 -- What a shelf shows: its files, where they are known, the ranges that were asked for, and how often each kind of refusal came.
-use Rattle.std.specs.Prelude.{◌≡◌, ℕ, ◌+◌, ◌≤◌, List, [], ◌++◌, Option, Some, None, length, unwrap_or, IsSome}
+use Rattle.std.specs.Prelude.{◌≡◌, ℕ, ◌+◌, ◌-◌, ◌^◌, ◌≤◌, min, List, [], ◌++◌, Option, Some, None, length, unwrap_or, IsSome}
 use Rattle.std.specs.Option.{option_map}
 use Rattle.std.specs.FinMap.{FinMap, get, insert}
 use Rattle.std.specs.Cmp.Lexicographic.{slice_cmp}
@@ -75,3 +75,20 @@ pub record Misses (before after : Counts) : Type 0 where
 pub record Clashes (before after : Counts) : Type 0 where
   pub rises : Rises before.clashes after.clashes
   pub others : after ≡ record before { clashes = after.clashes }
+
+-- Counts that rise by one at a time.
+
+abbrev pub one_more : ℕ → ℕ
+one_more count = min (count + 1) (2 ^ 64 - 1)
+
+abbrev pub read_fault_more : Counts → Counts
+read_fault_more c = record c { read_faults = one_more c.read_faults }
+
+abbrev pub write_fault_more : Counts → Counts
+write_fault_more c = record c { write_faults = one_more c.write_faults }
+
+abbrev pub absence_more : Counts → Counts
+absence_more c = record c { absences = one_more c.absences }
+
+abbrev pub clash_more : Counts → Counts
+clash_more c = record c { clashes = one_more c.clashes }

@@ -4,9 +4,9 @@
 ghost use Rattle.std.specs.Prelude.{◌≡◌, ◌<◌, ◌↔◌, ◌⊎◌, [], length, slice_get, Some, OnOk, OnErr, IsErrOf};
 ghost use Rattle.std.specs.Option.{option_copied};
 ghost use Rattle.std.specs.FinMap.{empty, get};
-ghost use Rattle.shelf.specs.Storage.{Has, with_file};
+ghost use Rattle.shelf.specs.Storage.{Has, with_file, read_fault_more, write_fault_more};
 ghost use Rattle.shelf.specs.Calls.{Measures, Reads, Creates, Adds};
-ghost use Rattle.shelf.specs.Memory.{mem_files, mem_storage, plan_of, IsPlanned, Turns, IsOutside};
+ghost use Rattle.shelf.specs.Memory.{mem_files, mem_storage, plan_of, IsPlanned, Turns, IsOutside, counts_past};
 
 use crate::byte_range::{ByteRange, keep_range};
 use crate::call_plan::CallPlan;
@@ -115,6 +115,7 @@ impl Shelf for MemShelf {
 
     fn length(&mut self, name: &Text) -> Result<u64, ShelfError>
         ensures measures { Measures (mem_storage self.old) (mem_storage self.new) name.now result }
+        ensures counts { (mem_storage self.new).counts ≡ counts_past read_fault_more (mem_storage self.old).counts result }
         ensures plan { Turns (plan_of self.old) (plan_of self.new) }
         ensures planned { IsErrOf result ShelfError.Failed ↔ IsPlanned (plan_of self.old) }
     {
@@ -133,6 +134,7 @@ impl Shelf for MemShelf {
           at = at;
           size = length into.old;
         }) into.new result }
+        ensures counts { (mem_storage self.new).counts ≡ counts_past read_fault_more (mem_storage self.old).counts result }
         ensures plan { Turns (plan_of self.old) (plan_of self.new) }
         ensures planned { IsPlanned (plan_of self.old)
             → IsErrOf result ShelfError.Failed ⊎ IsErrOf result ShelfError.NoMemory }
@@ -156,6 +158,7 @@ impl Shelf for MemShelf {
 
     fn create(&mut self, name: &Text) -> Result<(), ShelfError>
         ensures creates { Creates (mem_storage self.old) (mem_storage self.new) name.now result }
+        ensures counts { (mem_storage self.new).counts ≡ counts_past write_fault_more (mem_storage self.old).counts result }
         ensures plan { Turns (plan_of self.old) (plan_of self.new) }
         ensures planned { IsErrOf result ShelfError.Failed ↔ IsPlanned (plan_of self.old) }
     {
@@ -176,6 +179,7 @@ impl Shelf for MemShelf {
     fn append(&mut self, name: &Text, bytes: &[u8]) -> Result<(), ShelfError>
         requires there { Has (mem_storage self.old).files name.now }
         ensures adds { Adds (mem_storage self.old) (mem_storage self.new) name.now bytes.now result }
+        ensures counts { (mem_storage self.new).counts ≡ counts_past write_fault_more (mem_storage self.old).counts result }
         ensures plan { Turns (plan_of self.old) (plan_of self.new) }
         ensures planned { IsErrOf result ShelfError.Failed ↔ IsPlanned (plan_of self.old) }
     {

@@ -1,7 +1,7 @@
 //! How often each kind of refusal came.
 
 ghost use Rattle.std.specs.Prelude.{◌≡◌};
-ghost use Rattle.shelf.specs.Storage.{FailsRead, FailsWrite, Misses, Clashes};
+ghost use Rattle.shelf.specs.Storage.{FailsRead, FailsWrite, Misses, Clashes, read_fault_more, write_fault_more, absence_more, clash_more};
 
 use crate::shelf::ShelfError;
 
@@ -32,6 +32,7 @@ impl Counts {
     pub(crate) fn read_fault(&mut self) -> ShelfError
         ensures error { result ≡ ShelfError.Failed }
         ensures counted { FailsRead self.old self.new }
+        ensures by_one { self.new ≡ read_fault_more self.old }
     {
         self.read_faults = self.read_faults.saturating_add(1);
         ShelfError::Failed
@@ -40,6 +41,7 @@ impl Counts {
     pub(crate) fn write_fault(&mut self) -> ShelfError
         ensures error { result ≡ ShelfError.Failed }
         ensures counted { FailsWrite self.old self.new }
+        ensures by_one { self.new ≡ write_fault_more self.old }
     {
         self.write_faults = self.write_faults.saturating_add(1);
         ShelfError::Failed
@@ -48,6 +50,7 @@ impl Counts {
     pub(crate) fn absence(&mut self) -> ShelfError
         ensures error { result ≡ ShelfError.Absent }
         ensures counted { Misses self.old self.new }
+        ensures by_one { self.new ≡ absence_more self.old }
     {
         self.absences = self.absences.saturating_add(1);
         ShelfError::Absent
@@ -56,6 +59,7 @@ impl Counts {
     pub(crate) fn clash(&mut self) -> ShelfError
         ensures error { result ≡ ShelfError.Taken }
         ensures counted { Clashes self.old self.new }
+        ensures by_one { self.new ≡ clash_more self.old }
     {
         self.clashes = self.clashes.saturating_add(1);
         ShelfError::Taken
