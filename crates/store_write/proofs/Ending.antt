@@ -12,9 +12,9 @@ use Rattle.open_group.specs.OpenGroups.{Open, records_in, node_of}
 use Rattle.store_write.specs.Cutting.{Cut, cut_of, with_last}
 use Rattle.store_write.specs.Frames.{Body, body_of, with_ending}
 use Rattle.store_write.specs.Made.{format, made}
-use Rattle.store_write.proofs.Standing.{footer_same, body_with, grown}
+use Rattle.store_write.proofs.Standing.{footer_same, body_with, body_long, grown}
 use Rattle.store_write.specs.declared.file_writer.FileWriter.{FileWriter}
-use Rattle.closed_groups.specs.ClosedGroups.{Closed, meta_of, ending_of}
+use Rattle.closed_groups.specs.ClosedGroups.{Closed, meta_of, ending_of, footer_size, footer_limit}
 use Rattle.shelf.specs.Storage.{Files, Storage, Has, appended}
 use Rattle.shelf.specs.Calls.{Adds}
 use Rattle.shelf.specs.declared.shelf.ShelfError.{ShelfError}
@@ -50,12 +50,12 @@ finishes_closed name g h c d before mid after (x ∷ xs) r some done ends =
   where
     by : (r : Result (Unit {0}) First) → EndsWith name (ending_of (footer_bytes (meta_of (closed_with g c (x ∷ xs))))) mid after r → Finishes name g c (x ∷ xs) before after r
     by (Ok u) e = (adds_more before mid after name (concat (chunks_with g (x ∷ xs))) (ending_of (footer_bytes (meta_of (closed_with g c (x ∷ xs))))) done.added e, done.short)
-    by (Err first.Failed) e = later before mid after name (concat (chunks_with g (x ∷ xs))) (ending_of (footer_bytes (meta_of (closed_with g c (x ∷ xs))))) shelf.Failed done.added e
+    by (Err first.Failed) e = (done.short, later before mid after name (concat (chunks_with g (x ∷ xs))) (ending_of (footer_bytes (meta_of (closed_with g c (x ∷ xs))))) shelf.Failed done.added e)
     by (Err (first.FooterFull len)) e = absurd e
     by (Err first.NoMemory) e =
         elim e [
-          | inl same ↦ inr (stopped before after name (concat (chunks_with g (x ∷ xs))) (ending_of (footer_bytes (meta_of (closed_with g c (x ∷ xs))))) (same ∙ done.added))
-          | inr part ↦ inr (later before mid after name (concat (chunks_with g (x ∷ xs))) (ending_of (footer_bytes (meta_of (closed_with g c (x ∷ xs))))) shelf.NoMemory done.added part)
+          | inl same ↦ inr (done.short, stopped before after name (concat (chunks_with g (x ∷ xs))) (ending_of (footer_bytes (meta_of (closed_with g c (x ∷ xs))))) (same ∙ done.added))
+          | inr part ↦ inr (done.short, later before mid after name (concat (chunks_with g (x ∷ xs))) (ending_of (footer_bytes (meta_of (closed_with g c (x ∷ xs))))) shelf.NoMemory done.added part)
         ]
 
 -- a front of a front: the group of the rows that are left doesn't close
@@ -75,12 +75,12 @@ pub finishes_refused : (name : List ℕ) (g h : Open) (c d : Closed) (before aft
     → Closes name g h c d before after records (Err e) → Finishes name g c records before after (Err e)
 finishes_refused name g h c d before after [] e some closes = absurd (omega arith)
 finishes_refused name g h c d before after (x ∷ xs) first.Failed some closes =
-    front before after name (concat (chunks_with g (x ∷ xs))) (ending_of (footer_bytes (meta_of (closed_with g c (x ∷ xs))))) shelf.Failed closes
-finishes_refused name g h c d before after (x ∷ xs) (first.FooterFull len) some closes = closes
+    (closes.0, front before after name (concat (chunks_with g (x ∷ xs))) (ending_of (footer_bytes (meta_of (closed_with g c (x ∷ xs))))) shelf.Failed closes.1)
+finishes_refused name g h c d before after (x ∷ xs) (first.FooterFull len) some closes = (some, closes.0, closes.1, closes.2)
 finishes_refused name g h c d before after (x ∷ xs) first.NoMemory some closes =
     elim closes [
       | inl same ↦ inl same
-      | inr part ↦ inr (front before after name (concat (chunks_with g (x ∷ xs))) (ending_of (footer_bytes (meta_of (closed_with g c (x ∷ xs))))) shelf.NoMemory part)
+      | inr part ↦ inr (part.0, front before after name (concat (chunks_with g (x ∷ xs))) (ending_of (footer_bytes (meta_of (closed_with g c (x ∷ xs))))) shelf.NoMemory part.1)
     ]
 
 -- no rows are left
@@ -88,9 +88,9 @@ pub finishes_alone : (name : List ℕ) (g : Open) (c : Closed) (before after : S
     → EndsWith name (ending_of (footer_bytes (meta_of c))) before after r → Finishes name g c records before after r
 finishes_alone name g c before after (x ∷ xs) r none ends = absurd (omega arith)
 finishes_alone name g c before after [] (Ok u) none ends = (ends, tt)
-finishes_alone name g c before after [] (Err first.Failed) none ends = ends
+finishes_alone name g c before after [] (Err first.Failed) none ends = (tt, ends)
 finishes_alone name g c before after [] (Err (first.FooterFull len)) none ends = absurd ends
-finishes_alone name g c before after [] (Err first.NoMemory) none ends = ends
+finishes_alone name g c before after [] (Err first.NoMemory) none ends = elim ends [ | inl same ↦ inl same | inr part ↦ inr (tt, part) ]
 
 -- The file of the rows.
 
@@ -115,11 +115,34 @@ made_by g c bytes rows cut is k short = by cut.rest refl short
         ∙ ap Ok (append_assoc bytes chunks (ending_of (footer_bytes (meta_of (closed_with g c records)))))
 
 -- what stands, with its end, is the file of the rows
-made_is : (g : Open) (c : Closed) (bytes : List ℕ) (rows : List (Option Json)) → StandsBy g.settings (node_of g) g c bytes rows → IsShortEnd g c (records_in g)
+pub made_is : (g : Open) (c : Closed) (bytes : List ℕ) (rows : List (Option Json)) → StandsBy g.settings (node_of g) g c bytes rows → IsShortEnd g c (records_in g)
     → made g.settings (node_of g) rows ≡ Ok (bytes ++ end_bytes g c (records_in g))
 made_is g c bytes rows k short =
     let cut : Cut (Option Json) = cut_of (is_full g.settings (node_of g)) rows in
     made_by g c bytes rows cut refl k (subst (λ (rs : List RowRec). IsShortEnd g c rs) k.rest short) ∙ ap (λ (rs : List RowRec). Ok (bytes ++ end_bytes g c rs)) (sym k.rest)
+
+long_by : (g : Open) (c : Closed) (bytes : List ℕ) (rows : List (Option Json)) (cut : Cut (Option Json)) → cut_of (is_full g.settings (node_of g)) rows ≡ cut → StandsBy g.settings (node_of g) g c bytes rows
+    → 0 < length (records_of g.settings (node_of g) cut.rest) → footer_limit < footer_size (left_closed g c (records_of g.settings (node_of g) cut.rest))
+    → with_ending (format g.settings (node_of g)) (body_of (format g.settings (node_of g)) (with_last cut.closed cut.rest)) ≡ Err (footer_size (left_closed g c (records_of g.settings (node_of g) cut.rest)))
+long_by g c bytes rows cut is k some long = by cut.rest some long
+  where
+    closed_is : body_of (format g.settings (node_of g)) cut.closed ≡ Ok (record { bytes = bytes; metas = c.groups })
+    closed_is = ap (λ (x : Cut (Option Json)). body_of (format g.settings (node_of g)) x.closed) (sym is) ∙ k.closed
+
+    by : (rest : List (Option Json)) → 0 < length (records_of g.settings (node_of g) rest) → footer_limit < footer_size (left_closed g c (records_of g.settings (node_of g) rest))
+        → with_ending (format g.settings (node_of g)) (body_of (format g.settings (node_of g)) (with_last cut.closed rest)) ≡ Err (footer_size (left_closed g c (records_of g.settings (node_of g) rest)))
+    by [] some long = absurd (omega (arith, some))
+    by (x ∷ xs) some long =
+        ap (λ (r : Result (Body GroupMeta) ℕ). with_ending (format g.settings (node_of g)) r)
+        (body_long g c bytes cut.closed (x ∷ xs) (records_of g.settings (node_of g) (x ∷ xs)) k.schema k.orders k.paths k.at_end closed_is refl long)
+
+-- with the group of the rows that are left the footer would be too long
+pub made_long : (g : Open) (c : Closed) (bytes : List ℕ) (rows : List (Option Json)) → StandsBy g.settings (node_of g) g c bytes rows → 0 < length (records_in g) → footer_limit < footer_size (left_closed g c (records_in g))
+    → made g.settings (node_of g) rows ≡ Err (footer_size (left_closed g c (records_in g)))
+made_long g c bytes rows k some long =
+    let cut : Cut (Option Json) = cut_of (is_full g.settings (node_of g)) rows in
+    long_by g c bytes rows cut refl k (subst (λ (rs : List RowRec). 0 < length rs) k.rest some) (subst (λ (rs : List RowRec). footer_limit < footer_size (left_closed g c rs)) k.rest long)
+    ∙ ap (λ (rs : List RowRec). Err (footer_size (left_closed g c rs))) (sym k.rest)
 
 pub made_in : (w : FileWriter) (before after : Storage) (rows : List (Option Json)) → Finishes w.name w.open w.closed (records_in w.open) before after (Ok tt) → StandsIn before.files w rows
     → MadeIn after.files w.name (settings_in w) (node_in w) rows

@@ -1,3 +1,4 @@
 pub mod Ending
 pub mod Standing
 pub mod Starting
+pub mod Steps

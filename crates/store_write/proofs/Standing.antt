@@ -74,7 +74,7 @@ off_cut : {Row : Type 0} (b : Bool) (x y : Cut Row) → b ≡ false → cond b x
 off_cut b x y e = ap (λ (t : Bool). cond t x y) e
 
 -- the row is kept
-stands_kept : (g h : Open) (c d : Closed) (before after : Storage) (bytes : List ℕ) (rows : List (Option Json)) (row : Option Json) → is_full_with g row ≡ false
+pub stands_kept : (g h : Open) (c d : Closed) (before after : Storage) (bytes : List ℕ) (rows : List (Option Json)) (row : Option Json) → is_full_with g row ≡ false
     → IsKept g h c d before after row → h.paths ≡ g.paths → StandsBy g.settings (node_of g) g c bytes rows → StandsBy g.settings (node_of g) h d bytes (rows ++ row ∷ [])
 stands_kept g h c d before after bytes rows row full kept paths k =
     let s : Settings = g.settings in
@@ -98,6 +98,9 @@ size_is (x ∷ xs) = omega (arith, sum_by-cons {X = List ℕ} length x xs, size_
 
 within : (len : ℕ) → len ≤ footer_limit → nat_le len footer_limit ≡ true
 within len h = grind (arith, nat_tests)
+
+beyond : (len : ℕ) → footer_limit < len → nat_le len footer_limit ≡ false
+beyond len h = grind (arith, nat_tests)
 
 -- the footer, by what is kept
 pub footer_same : (s : Settings) (n : Group) (c : Closed) (groups : List GroupMeta) → c.schema ≡ schema_of n → c.orders ≡ orders_of (paths_of n)
@@ -127,8 +130,56 @@ body_with g c bytes groups group records schema orders paths place before is sma
     ∙ ap (λ (x : List ℕ). Ok (record { bytes = bytes ++ x; metas = c.groups ++ f.meta (length bytes) group ∷ [] })) chunks
     ∙ ap (λ (ms : List GroupMeta). Ok (record { bytes = bytes ++ concat (chunks_with g records); metas = ms })) metas
 
+-- a group doesn't close behind others
+pub body_long : (g : Open) (c : Closed) (bytes : List ℕ) (groups : List (List (Option Json))) (group : List (Option Json)) (records : List RowRec)
+    → c.schema ≡ schema_of (node_of g) → c.orders ≡ orders_of (paths_of (node_of g)) → g.paths ≡ paths_of (node_of g) → c.place ≡ length bytes
+    → body_of (format g.settings (node_of g)) groups ≡ Ok (record { bytes = bytes; metas = c.groups }) → records_of g.settings (node_of g) group ≡ records → footer_limit < footer_size (closed_with g c records)
+    → body_of (format g.settings (node_of g)) (groups ++ group ∷ []) ≡ Err (footer_size (closed_with g c records))
+body_long g c bytes groups group records schema orders paths place before is big =
+    let s : Settings = g.settings in
+    let n : Group = node_of g in
+    let f : Format (Option Json) GroupMeta = format s n in
+    let later : List GroupMeta = (closed_with g c records).groups in
+    let struct : f.meta (length bytes) group ≡ struct_of s n g.paths c.place records =
+    ap (λ (rs : List RowRec). struct_of s n (paths_of n) (length bytes) rs) is ∙ ap (λ (ps : List Path). struct_of s n ps (length bytes) records) (sym paths)
+    ∙ ap (λ (p : ℕ). struct_of s n g.paths p records) (sym place) in
+    let metas : c.groups ++ f.meta (length bytes) group ∷ [] ≡ later = ap (λ (m : GroupMeta). c.groups ++ m ∷ []) struct in
+    let footer : f.footer (c.groups ++ f.meta (length bytes) group ∷ []) ≡ footer_bytes (meta_of (closed_with g c records)) = ap f.footer metas ∙ footer_same s n c later schema orders in
+    let long : nat_le (length (f.footer (c.groups ++ f.meta (length bytes) group ∷ []))) footer_limit ≡ false = beyond _ (subst (λ (x : List ℕ). footer_limit < length x) (sym footer) big) in
+    body_more f groups group ∙ ap (λ (r : Result (Body GroupMeta) ℕ). close f r group) before
+    ∙ ap (λ (t : Bool). cond t (Ok (record { bytes = bytes ++ concat (f.chunks group); metas = c.groups ++ f.meta (length bytes) group ∷ [] })) (Err (length (f.footer (c.groups ++ f.meta (length bytes) group ∷ []))))) long
+    ∙ ap (λ (x : List ℕ). Err (length x)) footer
+
+-- the rows are cut so with the row that fills the group
+cut_full : (g : Open) (rows : List (Option Json)) (row : Option Json) (rest : List (Option Json)) → is_full_with g row ≡ true → (cut_of (is_full g.settings (node_of g)) rows).rest ≡ rest
+    → records_in g ≡ records_of g.settings (node_of g) rest → g.texts ≡ texts_len rest
+    → cut_of (is_full g.settings (node_of g)) (rows ++ row ∷ []) ≡ record { closed = (cut_of (is_full g.settings (node_of g)) rows).closed ++ ((cut_of (is_full g.settings (node_of g)) rows).rest ++ row ∷ []) ∷ []; rest = [] }
+cut_full g rows row rest full is records texts =
+    cut_more (is_full g.settings (node_of g)) rows row
+    ∙ at_cut (is_full g.settings (node_of g) ((cut_of (is_full g.settings (node_of g)) rows).rest ++ row ∷ [])) _ _
+    (ap (λ (r : List (Option Json)). is_full g.settings (node_of g) (r ++ row ∷ [])) is ∙ full_same g rest row records texts ∙ full)
+
+-- the chunks of the group that closes with the row follow those before
+pub closed_pushed : (g : Open) (c : Closed) (bytes : List ℕ) (rows : List (Option Json)) (row : Option Json) → is_full_with g row ≡ true → footer_size (closed_with g c (records_with g row)) ≤ footer_limit
+    → StandsBy g.settings (node_of g) g c bytes rows
+    → body_of (format g.settings (node_of g)) (cut_of (is_full g.settings (node_of g)) (rows ++ row ∷ [])).closed
+      ≡ Ok (record { bytes = bytes ++ concat (chunks_with g (records_with g row)); metas = (closed_with g c (records_with g row)).groups })
+closed_pushed g c bytes rows row full short k =
+    let cut : Cut (Option Json) = cut_of (is_full g.settings (node_of g)) rows in
+    ap (λ (x : Cut (Option Json)). body_of (format g.settings (node_of g)) x.closed) (cut_full g rows row cut.rest full refl k.rest k.texts)
+    ∙ body_with g c bytes cut.closed (cut.rest ++ row ∷ []) (records_with g row) k.schema k.orders k.paths k.at_end k.closed (sym (rest_more g cut.rest row k.rest)) short
+
+-- the footer would be too long with that group
+pub long_pushed : (g : Open) (c : Closed) (bytes : List ℕ) (rows : List (Option Json)) (row : Option Json) → is_full_with g row ≡ true → footer_limit < footer_size (closed_with g c (records_with g row))
+    → StandsBy g.settings (node_of g) g c bytes rows
+    → body_of (format g.settings (node_of g)) (cut_of (is_full g.settings (node_of g)) (rows ++ row ∷ [])).closed ≡ Err (footer_size (closed_with g c (records_with g row)))
+long_pushed g c bytes rows row full long k =
+    let cut : Cut (Option Json) = cut_of (is_full g.settings (node_of g)) rows in
+    ap (λ (x : Cut (Option Json)). body_of (format g.settings (node_of g)) x.closed) (cut_full g rows row cut.rest full refl k.rest k.texts)
+    ∙ body_long g c bytes cut.closed (cut.rest ++ row ∷ []) (records_with g row) k.schema k.orders k.paths k.at_end k.closed (sym (rest_more g cut.rest row k.rest)) long
+
 -- the group closes with the row
-stands_closed : (name : List ℕ) (g h : Open) (c d : Closed) (before after : Storage) (bytes : List ℕ) (rows : List (Option Json)) (row : Option Json) → is_full_with g row ≡ true
+pub stands_closed : (name : List ℕ) (g h : Open) (c d : Closed) (before after : Storage) (bytes : List ℕ) (rows : List (Option Json)) (row : Option Json) → is_full_with g row ≡ true
     → IsClosed name g h c d before after (records_with g row) → h.paths ≡ g.paths → StandsBy g.settings (node_of g) g c bytes rows
     → StandsBy g.settings (node_of g) h d (bytes ++ concat (chunks_with g (records_with g row))) (rows ++ row ∷ [])
 stands_closed name g h c d before after bytes rows row full done paths k =
@@ -153,7 +204,7 @@ stands_closed name g h c d before after bytes rows row full done paths k =
     }
 
 -- the same of another writer of the same column and choices
-stands_on : (g h : Open) (c d : Closed) (bytes : List ℕ) (rows : List (Option Json)) → KeepsColumn g h → StandsBy g.settings (node_of g) h d bytes rows → StandsBy h.settings (node_of h) h d bytes rows
+pub stands_on : (g h : Open) (c d : Closed) (bytes : List ℕ) (rows : List (Option Json)) → KeepsColumn g h → StandsBy g.settings (node_of g) h d bytes rows → StandsBy h.settings (node_of h) h d bytes rows
 stands_on g h c d bytes rows keeps k =
     subst (λ (s : Settings). StandsBy s (node_of h) h d bytes rows) (sym keeps.settings)
     (subst (λ (x : Column). StandsBy g.settings (group_of x.node) h d bytes rows) (sym keeps.column) k)

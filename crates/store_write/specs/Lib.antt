@@ -8,3 +8,5 @@ pub mod Made
 pub mod Writers
 -- how refusals are told
 pub mod Refusals
+-- what the calls of a writer leave, for any bytes and rows
+pub mod Steps

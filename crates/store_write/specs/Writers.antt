@@ -78,12 +78,12 @@ pub record IsClosed (name : List ℕ) (g h : Open) (c d : Closed) (before after 
   pub rows : h.rows ≡ []
   pub texts : h.texts ≡ 0
 
--- the footer would be too long, or the shelf didn't take all chunks
+-- the footer would be too long, or it would be short and the shelf didn't take all chunks
 abbrev pub Closes : List ℕ → Open → Open → Closed → Closed → Storage → Storage → List RowRec → Result (Unit {0}) First → Type 0
 Closes name g h c d before after records (Ok _) = IsClosed name g h c d before after records
-Closes name g h c d before after records (Err first.Failed) = Adds before after name (concat (chunks_with g records)) (Err shelf.Failed)
+Closes name g h c d before after records (Err first.Failed) = (footer_size (closed_with g c records) ≤ footer_limit) × Adds before after name (concat (chunks_with g records)) (Err shelf.Failed)
 Closes name g h c d before after records (Err (first.FooterFull len)) = (after ≡ before) × (len ≡ footer_size (closed_with g c records)) × (footer_limit < len)
-Closes name g h c d before after records (Err first.NoMemory) = (after ≡ before) ⊎ Adds before after name (concat (chunks_with g records)) (Err shelf.NoMemory)
+Closes name g h c d before after records (Err first.NoMemory) = (after ≡ before) ⊎ ((footer_size (closed_with g c records) ≤ footer_limit) × Adds before after name (concat (chunks_with g records)) (Err shelf.NoMemory))
 
 -- A row is added: it is kept, and where it fills the group the group closes.
 
@@ -140,9 +140,9 @@ end_bytes g c records = left_chunks g records ++ ending_of (footer_bytes (meta_o
 
 abbrev pub Finishes : List ℕ → Open → Closed → List RowRec → Storage → Storage → Result (Unit {0}) First → Type 0
 Finishes name g c records before after (Ok _) = (after ≡ record before { files = appended before.files name (end_bytes g c records) }) × IsShortEnd g c records
-Finishes name g c records before after (Err first.Failed) = Adds before after name (end_bytes g c records) (Err shelf.Failed)
-Finishes name g c records before after (Err (first.FooterFull len)) = (after ≡ before) × (len ≡ footer_size (left_closed g c records)) × (footer_limit < len)
-Finishes name g c records before after (Err first.NoMemory) = (after ≡ before) ⊎ Adds before after name (end_bytes g c records) (Err shelf.NoMemory)
+Finishes name g c records before after (Err first.Failed) = IsShortEnd g c records × Adds before after name (end_bytes g c records) (Err shelf.Failed)
+Finishes name g c records before after (Err (first.FooterFull len)) = (0 < length records) × (after ≡ before) × (len ≡ footer_size (left_closed g c records)) × (footer_limit < len)
+Finishes name g c records before after (Err first.NoMemory) = (after ≡ before) ⊎ (IsShortEnd g c records × Adds before after name (end_bytes g c records) (Err shelf.NoMemory))
 
 -- the footer alone
 abbrev pub EndsWith : List ℕ → List ℕ → Storage → Storage → Result (Unit {0}) First → Type 0

@@ -107,6 +107,7 @@ impl FileWriter {
         ensures starts { Starts (S.seen shelf.old) (S.seen shelf.new) name (error_of result) }
         ensures form { IfOk result (λ w. IsFor w name (group_of node) settings) }
         ensures whole { IfOk result (λ w. broken_by w ≡ None) }
+        ensures begun { IfOk result (λ w. Stands w magic []) }
         ensures stands { IfOk result (λ w. StandsIn (S.seen shelf.new).files w []) }
     {
         let writer = match FileWriter::new(alloc, name, node, settings) {

@@ -8,8 +8,12 @@ use Rattle.json_documents.specs.Documents.{at_end}
 use Rattle.json_documents.specs.declared.faults.InputFault.TheVariants as why
 use Rattle.json_documents.specs.declared.faults.Stop.{Stop}
 use Rattle.json_documents.specs.declared.faults.Stop.TheVariants.{Input, Taker}
-use Rattle.variant_store.specs.Commands.{Command, prints, AskFor}
-use Rattle.variant_store.specs.Ends.{stream_end}
+use Rattle.variant_store.specs.Commands.{Command, prints, loads, AskFor}
+use Rattle.variant_store.specs.Ends.{stream_end, load_end}
+use Rattle.command_parsing.specs.Commands.{Load}
+use Rattle.store_write.specs.declared.writer.WriteError.{WriteError}
+use Rattle.document_loading.specs.Loading.{Loads, intake}
+use Rattle.variant_store.proofs.AskedCommands.{one_stream, stream_or_load}
 use Rattle.variant_store.specs.InMemory.{Prints, IsNamed, StopsAtLine, StopsAtLimit}
 use Rattle.variant_store.specs.Report.{Reports, IsReported, status_of}
 use Rattle.variant_store.specs.Stream.{Stream}
@@ -29,25 +33,36 @@ piped input out = pipe_of (source_device input) (sink_device out)
 
 -- at status 0
 
-pub record Whole (words : List (List ℕ)) (input left : Given) (out out_now : Taken) : Type 0 where
-  pub stream : Stream
-  pub ask : AskFor words (prints stream)
+pub record Whole (stream : Stream) (input left : Given) (out out_now : Taken) : Type 0 where
   pub has_printed : Prints stream input at_end out out_now
   pub at_end : left.left ≡ []
 
-whole_stream : (words : List (List ℕ)) (stream : Stream) (input left : Given) (out out_now : Taken) (end : Result (Unit {0}) (Stop OutputFault)) → AskFor words (prints stream) → Ok tt ≡ stream_end end → Streams stream (piped input out) (piped left out_now) end → Whole words input left out out_now
-whole_stream words stream input left out out_now (Ok u) ask e s =
+whole_stream : (stream : Stream) (input left : Given) (out out_now : Taken) (end : Result (Unit {0}) (Stop OutputFault)) → Ok tt ≡ stream_end end → Streams stream (piped input out) (piped left out_now) end → Whole stream input left out out_now
+whole_stream stream input left out out_now (Ok u) e s =
     let gives = s.0.are_of input.left refl in
     let none = gives.1 in
-    record { stream = stream; ask = ask; has_printed = record { documents = s.0.documents; are_all = gives.0; answers = s.0.answers }; at_end = cc }
-whole_stream words stream input left out out_now (Err (Input fault)) ask e s = cc
-whole_stream words stream input left out out_now (Err (Taker fault)) ask e s = cc
+    record { has_printed = record { documents = s.0.documents; are_all = gives.0; answers = s.0.answers }; at_end = cc }
+whole_stream stream input left out out_now (Err (Input fault)) e s = cc
+whole_stream stream input left out out_now (Err (Taker fault)) e s = cc
 
-pub whole : (words : List (List ℕ)) (shelf shelf_now : Storage) (input left : Given) (out out_now : Taken) → Works words (in_memory shelf input out) (in_memory shelf_now left out_now) (Ok tt) → Whole words input left out out_now
-whole words shelf shelf_now input left out out_now works = by works.command works.asked works.does
+pub whole : (words : List (List ℕ)) (stream : Stream) (shelf shelf_now : Storage) (input left : Given) (out out_now : Taken) → AskFor words (prints stream) → Works words (in_memory shelf input out) (in_memory shelf_now left out_now) (Ok tt) → Whole stream input left out out_now
+whole words stream shelf shelf_now input left out out_now asks works = by works.command works.asked works.does
   where
-    by : (command : Command) → AskFor words command → Does command (in_memory shelf input out) (in_memory shelf_now left out_now) (Ok tt) → Whole words input left out out_now
-    by (prints stream) ask does = whole_stream words stream input left out out_now does.0 ask does.1 does.2
+    by : (command : Command) → AskFor words command → Does command (in_memory shelf input out) (in_memory shelf_now left out_now) (Ok tt) → Whole stream input left out out_now
+    by (prints other) ask does = subst (λ (t : Stream). Whole t input left out out_now) (one_stream words other stream ask asks) (whole_stream other input left out out_now does.0 does.1 does.2)
+    by (loads load) ask does = absurd (stream_or_load words stream load asks ask)
+
+read_load : (load : Load) (shelf shelf_now : Storage) (input left : Given) (end : Result (Unit {0}) (Stop WriteError)) → Ok tt ≡ load_end end → Loads load (intake shelf (source_device input)) (intake shelf_now (source_device left)) end → left.left ≡ []
+read_load load shelf shelf_now input left (Ok u) e s = let none = (s.0.are_of input.left refl).1 in cc
+read_load load shelf shelf_now input left (Err (Input fault)) e s = cc
+read_load load shelf shelf_now input left (Err (Taker fault)) e s = cc
+
+pub read_all : (words : List (List ℕ)) (shelf shelf_now : Storage) (input left : Given) (out out_now : Taken) → Works words (in_memory shelf input out) (in_memory shelf_now left out_now) (Ok tt) → left.left ≡ []
+read_all words shelf shelf_now input left out out_now works = by works.command works.does
+  where
+    by : (command : Command) → Does command (in_memory shelf input out) (in_memory shelf_now left out_now) (Ok tt) → left.left ≡ []
+    by (prints stream) does = (whole_stream stream input left out out_now does.0 does.1 does.2).at_end
+    by (loads load) does = read_load load shelf shelf_now input left does.0 does.1 does.2
 
 not_zero : (error : CommandError) → status_of error ≡ 0 → ⊥
 not_zero (error.BadWords bad) e = omega (arith, e)
@@ -100,20 +115,19 @@ stopped stream input left out out_now err err_now status (Err (Taker (output.Wri
 stopped stream input left out out_now err err_now status (Err (Taker output.NoMemory)) three s e = let told = (reported error.NoMemory status (sink_device err) (sink_device err_now) three e).0 in absurd (omega (arith, told))
 stopped stream input left out out_now err err_now status (Err (Taker (output.Write sink.NoMemory))) three s e = let told = (reported error.NoMemory status (sink_device err) (sink_device err_now) three e).0 in absurd (omega (arith, told))
 
-abbrev StopsSo : List (List ℕ) → Given → Taken → Taken → Taken → Taken → Type 0
-StopsSo words input out out_now err err_now = (stream : Stream) × AskFor words (prints stream) × StopsAt stream input out out_now err err_now
-
-pub stops : (words : List (List ℕ)) (shelf shelf_now : Storage) (input left : Given) (out out_now err err_now : Taken) (status : ℕ) → status ≡ 3 → IsAnswer words (in_memory shelf input out) (in_memory shelf_now left out_now) (sink_device err) (sink_device err_now) status
-    → StopsSo words input out out_now err err_now
-stops words shelf shelf_now input left out out_now err err_now status three a = by a.runs
+pub stops : (words : List (List ℕ)) (stream : Stream) (shelf shelf_now : Storage) (input left : Given) (out out_now err err_now : Taken) (status : ℕ) → AskFor words (prints stream) → status ≡ 3
+    → IsAnswer words (in_memory shelf input out) (in_memory shelf_now left out_now) (sink_device err) (sink_device err_now) status → StopsAt stream input out out_now err err_now
+stops words stream shelf shelf_now input left out out_now err err_now status asks three a = by a.runs
   where
     ended : (done : Result (Unit {0}) CommandError) → a.done ≡ done → Ends done status (sink_device err) (sink_device err_now)
     ended done e = subst (λ (d : Result (Unit {0}) CommandError). Ends d status (sink_device err) (sink_device err_now)) e a.ends
 
-    by_command : (command : Command) → AskFor words command → Does command (in_memory shelf input out) (in_memory shelf_now left out_now) a.done → StopsSo words input out out_now err err_now
-    by_command (prints stream) ask does = (stream, ask, stopped stream input left out out_now err err_now status does.0 three does.2 (ended (stream_end does.0) does.1))
+    by_command : (command : Command) → AskFor words command → Does command (in_memory shelf input out) (in_memory shelf_now left out_now) a.done → StopsAt stream input out out_now err err_now
+    by_command (prints other) ask does =
+        subst (λ (t : Stream). StopsAt t input out out_now err err_now) (one_stream words other stream ask asks) (stopped other input left out out_now err err_now status does.0 three does.2 (ended (stream_end does.0) does.1))
+    by_command (loads load) ask does = absurd (stream_or_load words stream load asks ask)
 
-    by : Runs words (in_memory shelf input out) (in_memory shelf_now left out_now) a.done → StopsSo words input out out_now err err_now
+    by : Runs words (in_memory shelf input out) (in_memory shelf_now left out_now) a.done → StopsAt stream input out out_now err err_now
     by (inl works) = by_command works.command works.asked works.does
     by (inr (inl refused)) = let told = (reported (error.BadWords refused.bad) status (sink_device err) (sink_device err_now) three (ended (Err (error.BadWords refused.bad)) refused.answer_is)).0 in absurd (omega (arith, told))
     by (inr (inr lacking)) = let told = (reported error.NoMemory status (sink_device err) (sink_device err_now) three (ended (Err error.NoMemory) lacking.answer_is)).0 in absurd (omega (arith, told))

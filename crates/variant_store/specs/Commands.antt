@@ -3,7 +3,7 @@ use Rattle.std.specs.Prelude.{◌≡◌, ℕ, List, [], ◌∷◌, codes, if◌t
 use Rattle.std.specs.Str.{bytes_eq}
 use Rattle.command_words.specs.Widths.{WidthsGiven}
 use Rattle.command_words.specs.declared.settings.WidthWords.{WidthWords}
-use Rattle.command_parsing.specs.Commands.{AskScan, AskScanWrongly, AskVariant, AskVariantWrongly}
+use Rattle.command_parsing.specs.Commands.{AskScan, AskScanWrongly, AskVariant, AskVariantWrongly, Load, AskLoad, AskLoadWrongly, load_of}
 use Rattle.command_parsing.specs.declared.fault.BadWords.{BadWords}
 use Rattle.command_parsing.specs.declared.fault.BadWords.TheVariants.{Usage}
 use Rattle.query_tree.specs.Asked.{query_of}
@@ -17,16 +17,19 @@ use Rattle.variant_store.specs.declared.command.Command.TheVariants as commands
 pub data Command : Type 0 where
   -- to print something of each document of the input
   prints : Stream → Command
+  -- to write the documents of the input to a new file
+  loads : Load → Command
 
 -- the command that a word names
 abbrev pub named : List ℕ → Option Name
-named word = if bytes_eq word (codes "scan") then Some name.Scan else (if bytes_eq word (codes "variant") then Some name.Variant else None)
+named word = if bytes_eq word (codes "scan") then Some name.Scan else (if bytes_eq word (codes "variant") then Some name.Variant else (if bytes_eq word (codes "load") then Some name.Load else None))
 
 -- ---- by the first word, which names the command, and the words after it
 
 abbrev pub name_of : Command → Name
 name_of (prints (scan asked)) = name.Scan
 name_of (prints (variant widths)) = name.Variant
+name_of (loads load) = name.Load
 
 abbrev pub widths_given : Widths → WidthsGiven
 widths_given widths = record { offset = widths.offset; id = widths.id }
@@ -35,6 +38,7 @@ widths_given widths = record { offset = widths.offset; id = widths.id }
 abbrev pub AskCommand : List (List ℕ) → Command → Type 0
 AskCommand words (prints (scan asked)) = AskScan words asked
 AskCommand words (prints (variant widths)) = AskVariant words (widths_given widths)
+AskCommand words (loads load) = AskLoad words load
 
 -- the words ask for this
 abbrev pub AskFor : List (List ℕ) → Command → Type 0
@@ -46,6 +50,7 @@ abbrev pub AskCommandWrongly : Option Name → List (List ℕ) → BadWords → 
 AskCommandWrongly None words bad = bad ≡ Usage
 AskCommandWrongly (Some name.Scan) words bad = AskScanWrongly words bad
 AskCommandWrongly (Some name.Variant) words bad = AskVariantWrongly words bad
+AskCommandWrongly (Some name.Load) words bad = AskLoadWrongly words bad
 
 -- the words ask for nothing: they name no command, or the words after its name aren't those of the command, or
 -- what these give is wrong
@@ -62,3 +67,4 @@ widths_by words = record { offset = words.offset_width; id = words.id_width }
 abbrev pub command_of : code.Command → Command
 command_of (commands.Scan query) = prints (scan (query_of query))
 command_of (commands.Variant words) = prints (variant (widths_by words))
+command_of (commands.Load load) = loads (load_of load)

@@ -5,12 +5,16 @@ use Rattle.json_documents.specs.declared.faults.InputFault.{InputFault}
 use Rattle.json_documents.specs.declared.faults.InputFault.TheVariants as input
 use Rattle.json_documents.specs.declared.faults.Stop.{Stop}
 use Rattle.json_documents.specs.declared.faults.Stop.TheVariants.{Input, Taker}
+use Rattle.store_write.specs.declared.writer.First.{First}
+use Rattle.store_write.specs.declared.writer.First.TheVariants as first
+use Rattle.store_write.specs.declared.writer.WriteError.{WriteError}
+use Rattle.store_write.specs.declared.writer.WriteError.TheVariants as write
 use Rattle.variant_store.specs.declared.gatherer.OutputFault.{OutputFault}
 use Rattle.variant_store.specs.declared.gatherer.OutputFault.TheVariants as output
 use Rattle.command_parsing.specs.declared.fault.WordsFault.{WordsFault}
 use Rattle.command_parsing.specs.declared.fault.WordsFault.TheVariants as words
 use Rattle.variant_store.specs.declared.command_error.CommandError.{CommandError}
-use Rattle.variant_store.specs.declared.command_error.CommandError.TheVariants.{BadWords, BadLine, InputTooLong, ReadFault, WriteFault, NoMemory}
+use Rattle.variant_store.specs.declared.command_error.CommandError.TheVariants.{BadWords, BadLine, InputTooLong, FooterFull, ReadFault, WriteFault, NoMemory, Taken}
 
 -- words that give no command
 abbrev pub words_error : WordsFault → CommandError
@@ -33,3 +37,21 @@ abbrev pub stream_end : Result (Unit {0}) (Stop OutputFault) → Result (Unit {0
 stream_end (Ok u) = Ok u
 stream_end (Err (Input fault)) = Err (input_error fault)
 stream_end (Err (Taker fault)) = Err (output_error fault)
+
+abbrev pub first_error : First → CommandError
+first_error first.Failed = WriteFault
+first_error (first.FooterFull footer_len) = FooterFull
+first_error first.NoMemory = NoMemory
+
+abbrev pub write_error : WriteError → CommandError
+write_error write.Taken = Taken
+write_error write.Failed = WriteFault
+write_error (write.FooterFull footer_len) = FooterFull
+write_error write.NoMemory = NoMemory
+write_error (write.Broken first) = first_error first
+
+-- a command that writes the documents to a file
+abbrev pub load_end : Result (Unit {0}) (Stop WriteError) → Result (Unit {0}) CommandError
+load_end (Ok u) = Ok u
+load_end (Err (Input fault)) = Err (input_error fault)
+load_end (Err (Taker fault)) = Err (write_error fault)

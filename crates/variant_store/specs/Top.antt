@@ -1,15 +1,21 @@
 -- What a call of the program does, by how it ends.
-use Rattle.std.specs.Prelude.{◌≡◌, ◌⊎◌, ℕ, List, Some, Result, Ok, Err}
+use Rattle.std.specs.Prelude.{◌≡◌, ◌⊎◌, ℕ, List, Some, None, Result, Ok, Err}
 use Rattle.outside.specs.Devices.{Device, Fails}
 use Rattle.json_tree.specs.Json.{Json}
 use Rattle.json_documents.specs.Documents.{at_end, HasDocuments}
 use Rattle.json_documents.specs.declared.faults.Stop.{Stop}
 use Rattle.command_parsing.specs.declared.fault.BadWords.{BadWords}
-use Rattle.variant_store.specs.Commands.{Command, prints, AskFor, AskWrongly}
-use Rattle.variant_store.specs.World.{World, pipe_in}
+use Rattle.variant_store.specs.Commands.{Command, prints, loads, AskFor, AskWrongly}
+use Rattle.variant_store.specs.World.{World, pipe_in, intake_in}
 use Rattle.variant_store.specs.Streaming.{Streams}
-use Rattle.variant_store.specs.Ends.{stream_end}
+use Rattle.variant_store.specs.Ends.{stream_end, load_end}
 use Rattle.variant_store.specs.Report.{IsReported}
+use Rattle.std.specs.FinMap.{get}
+use Rattle.shelf.specs.Storage.{Files, FailsWrite}
+use Rattle.store_write.specs.Frames.{made}
+use Rattle.store_write.specs.declared.writer.WriteError.{WriteError}
+use Rattle.document_loading.specs.Loading.{Loads, format}
+use Rattle.document_loading.specs.Taken.{rows_of}
 use Rattle.variant_store.specs.declared.gatherer.OutputFault.{OutputFault}
 use Rattle.variant_store.specs.declared.command_error.CommandError.{CommandError}
 use Rattle.variant_store.specs.declared.command_error.CommandError.TheVariants as error
@@ -17,6 +23,7 @@ use Rattle.variant_store.specs.declared.command_error.CommandError.TheVariants a
 -- what a command does, by how the call ends
 abbrev pub Does : Command → World → World → Result (Unit {0}) CommandError → Type 0
 Does (prints stream) before after done = (end : Result (Unit {0}) (Stop OutputFault)) × (done ≡ stream_end end) × Streams stream (pipe_in before) (pipe_in after) end × (after.shelf ≡ before.shelf)
+Does (loads load) before after done = (end : Result (Unit {0}) (Stop WriteError)) × (done ≡ load_end end) × Loads load (intake_in before) (intake_in after) end × (after.out ≡ before.out)
 
 -- the words ask for a command, and it was done so
 pub record Works (words : List (List ℕ)) (before after : World) (done : Result (Unit {0}) CommandError) : Type 0 where
@@ -50,11 +57,22 @@ pub record IsAnswer (words : List (List ℕ)) (before after : World) (err err_no
   pub runs : Runs words before after done
   pub ends : Ends done status err err_now
 
--- the command has nothing to refuse in what it is handed
+-- the input has these documents and no fault
+abbrev pub HasAll : World → List Json → Type 0
+HasAll before documents = (input : List ℕ) × (before.input.bytes ≡ Some input) × HasDocuments input documents at_end
+
+-- the command has nothing to refuse in what it is handed: a file that is written has a free name, and no footer with a
+-- group of it is too long
 abbrev pub IsAdmitted : Command → World → Type 0
-IsAdmitted (prints stream) before = (input : List ℕ) × (documents : List Json) × (before.input.bytes ≡ Some input) × HasDocuments input documents at_end
+IsAdmitted (prints stream) before = (documents : List Json) × HasAll before documents
+IsAdmitted (loads load) before =
+    (documents : List Json) × HasAll before documents × (files : Files) × (before.shelf.files ≡ Some files) × (get files load.out ≡ None) × (bytes : List ℕ) × (made (format load) (rows_of documents) ≡ Ok bytes)
+
+-- a device failed that the command uses
+abbrev pub HasFailed : Command → World → World → Type 0
+HasFailed (prints stream) before after = Fails before.input after.input ⊎ Fails before.out after.out
+HasFailed (loads load) before after = Fails before.input after.input ⊎ FailsWrite before.shelf.counts after.shelf.counts
 
 -- admitted input and no fault of a device give 0, or no memory
 abbrev pub Completes : List (List ℕ) → World → World → ℕ → Type 0
-Completes words before after status =
-    (command : Command) → AskFor words command → IsAdmitted command before → (Fails before.input after.input → ⊥) → (Fails before.out after.out → ⊥) → (status ≡ 0) ⊎ (status ≡ 7)
+Completes words before after status = (command : Command) → AskFor words command → IsAdmitted command before → (HasFailed command before after → ⊥) → (status ≡ 0) ⊎ (status ≡ 7)

@@ -1,6 +1,7 @@
 -- What a call of the program is handed, beside its words and its error output.
 use Rattle.outside.specs.Devices.{Device, IsCalm}
 use Rattle.shelf.specs.Storage.{Storage}
+use Rattle.document_loading.specs.Loading.{Intake, intake}
 
 pub record World : Type 0 where
   pub shelf : Storage
@@ -24,3 +25,7 @@ pipe_in world = pipe_of world.input world.out
 -- no device failed
 abbrev pub AreCalm : Pipe → Pipe → Type 0
 AreCalm before after = IsCalm before.input after.input × IsCalm before.out after.out
+
+-- what a command is handed that reads the input and writes a file
+abbrev pub intake_in : World → Intake
+intake_in world = intake world.shelf world.input

@@ -4,7 +4,9 @@ ghost use Rattle.std.specs.Prelude.{◌≡◌};
 ghost use Rattle.command_parsing.specs.Asking.{Reads};
 ghost use Rattle.variant_store.specs.Commands.{AskFor, AskWrongly, command_of, named};
 
-use command_parsing::{BadWords, WidthWords, WordsFault, asked_scan, asked_variant};
+use command_parsing::{
+    BadWords, LoadCommand, WidthWords, WordsFault, asked_load, asked_scan, asked_variant,
+};
 use path_query::Query;
 use std::alloc::Global;
 use vs_bytes::Text;
@@ -14,6 +16,7 @@ use vs_bytes::Text;
 pub enum Name {
     Scan,
     Variant,
+    Load,
 }
 
 /// What a call is asked to do.
@@ -23,6 +26,8 @@ pub enum Command {
     Scan(Query),
     /// To print each document of the input as a Variant, with numbers of at least these widths.
     Variant(WidthWords),
+    /// To write the documents of the input to a new file.
+    Load(LoadCommand),
 }
 
 /// The command that a word names.
@@ -33,6 +38,8 @@ fn named(word: &[u8]) -> Option<Name>
         Some(Name::Scan)
     } else if word == b"variant".as_slice() {
         Some(Name::Variant)
+    } else if word == b"load".as_slice() {
+        Some(Name::Load)
     } else {
         None
     }
@@ -52,6 +59,10 @@ pub fn asked_command(alloc: Global, words: &[Text]) -> Result<Command, WordsFaul
         },
         Some(Name::Variant) => match asked_variant(alloc, others) {
             Ok(widths) => Ok(Command::Variant(widths)),
+            Err(fault) => Err(fault),
+        },
+        Some(Name::Load) => match asked_load(alloc, others) {
+            Ok(load) => Ok(Command::Load(load)),
             Err(fault) => Err(fault),
         },
         None => Err(WordsFault::Wrong(BadWords::Usage)),

@@ -1,7 +1,7 @@
 //! Why a call ends with another status than 0, and the line that says so.
 
 ghost use Rattle.std.specs.Prelude.{◌≡◌, IfOk, string_bytes};
-ghost use Rattle.variant_store.specs.Ends.{words_error, input_error, output_error, stream_end};
+ghost use Rattle.variant_store.specs.Ends.{words_error, input_error, output_error, stream_end, first_error, write_error, load_end};
 ghost use Rattle.variant_store.specs.Report.{status_of, message_of, IsReported};
 
 use crate::gatherer::OutputFault;
@@ -10,6 +10,7 @@ use command_parsing::{BadWords, WordsFault};
 use json_documents::{DocFault, InputFault, Stop};
 use outside::{Sink, SinkError, write_all};
 use std::alloc::{AllocError, Global};
+use store_write::{First, WriteError};
 use vs_bytes::Rule;
 
 /// Why a call ends with another status than 0.
@@ -77,6 +78,41 @@ pub fn stream_end(done: Result<(), Stop<OutputFault>>) -> Result<(), CommandErro
         Ok(()) => Ok(()),
         Err(Stop::Input(fault)) => Err(input_error(fault)),
         Err(Stop::Taker(fault)) => Err(output_error(fault)),
+    }
+}
+
+/// How a call ends whose file was refused earlier.
+fn first_error(first: First) -> CommandError
+    ensures { result ≡ first_error first }
+{
+    match first {
+        First::Failed => CommandError::WriteFault,
+        First::FooterFull { .. } => CommandError::FooterFull,
+        First::NoMemory => CommandError::NoMemory,
+    }
+}
+
+/// How a call ends that stops at the file that it writes.
+fn write_error(fault: WriteError) -> CommandError
+    ensures { result ≡ write_error fault }
+{
+    match fault {
+        WriteError::Taken => CommandError::Taken,
+        WriteError::Failed => CommandError::WriteFault,
+        WriteError::FooterFull { .. } => CommandError::FooterFull,
+        WriteError::NoMemory => CommandError::NoMemory,
+        WriteError::Broken(first) => first_error(first),
+    }
+}
+
+/// How a call ends that writes the documents to a file.
+pub fn load_end(done: Result<(), Stop<WriteError>>) -> Result<(), CommandError>
+    ensures { result ≡ load_end done }
+{
+    match done {
+        Ok(()) => Ok(()),
+        Err(Stop::Input(fault)) => Err(input_error(fault)),
+        Err(Stop::Taker(fault)) => Err(write_error(fault)),
     }
 }
 

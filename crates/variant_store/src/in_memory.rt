@@ -28,11 +28,11 @@ pub fn vstore_in_memory(
     err: &mut MemSink,
 ) -> u8
     ensures answer { IsAnswer words.now (world_of (mem_storage shelf.old) (source_device input.old) (sink_device out.old)) (world_of (mem_storage shelf.new) (source_device input.new) (sink_device out.new)) (sink_device err.old) (sink_device err.new) result }
-    ensures prints { result ≡ 0 → (stream : Stream) × AskFor words.now (prints stream) × Prints stream input.old at_end out.old out.new }
+    ensures prints { (stream : Stream) → AskFor words.now (prints stream) → result ≡ 0 → Prints stream input.old at_end out.old out.new }
     ensures read_whole { result ≡ 0 → input.new.left ≡ [] }
     ensures quiet { result ≡ 0 → err.new.written ≡ err.old.written }
     ensures bounded { IsWithinLimit input.old.left (Some input.new.left) }
-    ensures refused { result ≡ 3 → (stream : Stream) × AskFor words.now (prints stream) × (StopsAtLine stream input.old out.old out.new err.old err.new ⊎ StopsAtLimit stream input.old out.old out.new err.old err.new) }
+    ensures refused { (stream : Stream) → AskFor words.now (prints stream) → result ≡ 3 → (StopsAtLine stream input.old out.old out.new err.old err.new ⊎ StopsAtLimit stream input.old out.old out.new err.old err.new) }
     ensures beside { (stream : Stream) → AskFor words.now (prints stream) → shelf.new ≡ shelf.old }
     ensures complete { (stream : Stream) (documents : List Json) → AskFor words.now (prints stream) → HasDocuments input.old.left documents at_end → (Rose input.old.plan.faults input.new.plan.faults → ⊥) → (Rose out.old.plan.faults out.new.plan.faults → ⊥) → (result ≡ 0) ⊎ (result ≡ 7) }
 {

@@ -10,10 +10,11 @@ ghost use Rattle.variant_store.specs.Stream.{Stream};
 ghost use Rattle.variant_store.specs.declared.command_error.CommandError.TheVariants as error;
 
 use crate::command::{Command, asked_command};
-use crate::command_error::{CommandError, stream_end, words_error};
+use crate::command_error::{CommandError, load_end, stream_end, words_error};
 use crate::query_printer::QueryPrinter;
 use crate::stream::stream;
 use crate::variant_printer::VariantPrinter;
+use document_loading::load;
 use outside::{Sink, Source};
 use shelf::Shelf;
 use std::alloc::Global;
@@ -46,6 +47,7 @@ fn run<S: Shelf, I: Source, O: Sink>(
             };
             stream_end(stream(alloc, VariantPrinter::new(alloc, widths), input, out))
         }
+        Ok(Command::Load(asked)) => load_end(load(alloc, asked, input, shelf)),
         Err(fault) => Err(words_error(fault)),
     }
 }
