@@ -6,8 +6,8 @@ use Rattle.command_parsing.specs.Commands.{Load}
 use Rattle.shelf.specs.Storage.{Files, Has}
 use Rattle.store_write.specs.Cutting.{cut_of}
 use Rattle.store_write.specs.Frames.{body_of, made}
-use Rattle.store_write.specs.declared.writer.WriteError.{WriteError}
-use Rattle.store_write.specs.declared.writer.WriteError.TheVariants as write
+use Rattle.store_write.specs.declared.write_error.WriteError.{WriteError}
+use Rattle.store_write.specs.declared.write_error.WriteError.TheVariants as write
 use Rattle.document_loading.specs.Loading.{Loads, Overflows, format}
 use Rattle.document_loading.specs.Taken.{rows_of}
 use Rattle.document_loading.proofs.Overflowing.{long_stays}

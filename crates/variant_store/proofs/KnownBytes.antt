@@ -11,7 +11,7 @@ use Rattle.json_documents.specs.declared.faults.Stop.TheVariants.{Input, Taker}
 use Rattle.variant_store.specs.Commands.{Command, prints, loads, AskFor}
 use Rattle.variant_store.specs.Ends.{stream_end, load_end}
 use Rattle.command_parsing.specs.Commands.{Load}
-use Rattle.store_write.specs.declared.writer.WriteError.{WriteError}
+use Rattle.store_write.specs.declared.write_error.WriteError.{WriteError}
 use Rattle.document_loading.specs.Loading.{Loads, intake}
 use Rattle.variant_store.proofs.AskedCommands.{one_stream, stream_or_load}
 use Rattle.variant_store.specs.InMemory.{Prints, IsNamed, StopsAtLine, StopsAtLimit}

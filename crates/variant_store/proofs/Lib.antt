@@ -6,5 +6,7 @@ pub mod Completing
 pub mod Gathering
 -- the top call over known bytes
 pub mod KnownBytes
+-- what is known of a load that words ask for
+pub mod LoadWords
 -- the ends of a command that prints something of each document
 pub mod StreamEnds

@@ -5,10 +5,10 @@ use Rattle.json_documents.specs.declared.faults.InputFault.{InputFault}
 use Rattle.json_documents.specs.declared.faults.InputFault.TheVariants as input
 use Rattle.json_documents.specs.declared.faults.Stop.{Stop}
 use Rattle.json_documents.specs.declared.faults.Stop.TheVariants.{Input, Taker}
-use Rattle.store_write.specs.declared.writer.First.{First}
-use Rattle.store_write.specs.declared.writer.First.TheVariants as first
-use Rattle.store_write.specs.declared.writer.WriteError.{WriteError}
-use Rattle.store_write.specs.declared.writer.WriteError.TheVariants as write
+use Rattle.store_write.specs.declared.write_error.First.{First}
+use Rattle.store_write.specs.declared.write_error.First.TheVariants as first
+use Rattle.store_write.specs.declared.write_error.WriteError.{WriteError}
+use Rattle.store_write.specs.declared.write_error.WriteError.TheVariants as write
 use Rattle.variant_store.specs.declared.gatherer.OutputFault.{OutputFault}
 use Rattle.variant_store.specs.declared.gatherer.OutputFault.TheVariants as output
 use Rattle.command_parsing.specs.declared.fault.WordsFault.{WordsFault}

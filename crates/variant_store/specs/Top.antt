@@ -13,7 +13,7 @@ use Rattle.variant_store.specs.Report.{IsReported}
 use Rattle.std.specs.FinMap.{get}
 use Rattle.shelf.specs.Storage.{Files, FailsWrite}
 use Rattle.store_write.specs.Frames.{made}
-use Rattle.store_write.specs.declared.writer.WriteError.{WriteError}
+use Rattle.store_write.specs.declared.write_error.WriteError.{WriteError}
 use Rattle.document_loading.specs.Loading.{Loads, format}
 use Rattle.document_loading.specs.Taken.{rows_of}
 use Rattle.variant_store.specs.declared.gatherer.OutputFault.{OutputFault}

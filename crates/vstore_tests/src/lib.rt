@@ -7,6 +7,7 @@
 //! | `rows` | lines, values and faults: what is printed for an input |
 //! | `limits` | the depth of a line, its length, output of many pieces |
 //! | `variants` | the bytes of documents as Variants |
+//! | `loads` | documents loaded to a file |
 //! | `devices` | each read and each write failing in turn, sources and sinks in pieces, a sink without memory |
 #![tactic(auto)]
 
@@ -14,6 +15,8 @@
 mod devices;
 #[cfg(test)]
 mod limits;
+#[cfg(test)]
+mod loads;
 #[cfg(test)]
 mod rows;
 #[cfg(test)]
