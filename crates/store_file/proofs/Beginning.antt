@@ -1,5 +1,5 @@
 -- The mask of a column, and the beginning of a file.
-use Rattle.std.proofs.Common.{◌≡◌, ◌∙◌, refl, sym, ap, subst, ℕ, zero, suc, ◌+◌, Bool, true, false, not, ◌&&◌, List, length, get_or, replicate, Result, Ok, Err, arith}
+use Rattle.std.proofs.Common.{◌≡◌, ◌∙◌, refl, sym, ap, subst, ℕ, suc, ◌+◌, Bool, true, false, List, length, replicate, Result, Ok, Err, arith}
 use Rattle.std.proofs.lemmas.List.{length-replicate}
 use Rattle.vs_bytes.specs.Outcome.{◌>>=◌, Makes}
 use Rattle.vs_bytes.specs.declared.refused.Refused.{Refused}

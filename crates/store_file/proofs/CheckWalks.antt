@@ -1,5 +1,5 @@
 -- The walk of a check over the groups of a file.
-use Rattle.std.proofs.Common.{◌≡◌, ◌∙◌, refl, sym, ap, subst, ℕ, ◌+◌, ◌≤◌, List, [], ◌∷◌, ◌++◌, length, take, Option, None, Some, Result, Ok, Err, arith, length-append}
+use Rattle.std.proofs.Common.{◌≡◌, ◌∙◌, refl, sym, ap, subst, ℕ, ◌+◌, ◌≤◌, List, [], ◌++◌, length, take, Option, Some, Ok, Err, arith, length-append}
 use Rattle.std.specs.List.{slice_get}
 use Rattle.json_tree.specs.Json.{Json}
 use Rattle.shelf.specs.Storage.{Storage}

@@ -9,7 +9,6 @@ use Rattle.group_reading.specs.RowsAhead.{with_row, RefusesRow}
 use Rattle.group_lines.proofs.RowsDone.{put_before, none_done, one_done, all_done, none_more}
 use Rattle.json_tree.specs.Json.{Json}
 use Rattle.query_tree.specs.Asked.{Asked}
-use Rattle.shred_schema.specs.Views.{group_of}
 use Rattle.shelf.specs.Storage.{Storage}
 use Rattle.footer_structs.specs.declared.row_groups.GroupMeta.{GroupMeta}
 use Rattle.group_reading.specs.declared.group_faults.GroupFault.{GroupFault}

@@ -4,3 +4,4 @@ pub mod GroupsRead
 pub mod Walks
 pub mod QueryWalks
 pub mod CheckWalks
+pub mod RowLines

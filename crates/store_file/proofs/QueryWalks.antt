@@ -1,12 +1,12 @@
 -- The walk of a query over the groups of a file.
-use Rattle.std.proofs.Common.{◌≡◌, ◌∙◌, refl, sym, ap, subst, ℕ, ◌+◌, ◌-◌, ◌^◌, ◌<◌, ◌≤◌, min, List, [], ◌∷◌, ◌++◌, length, take, drop, Option, None, Some, Result, Ok, Err, arith, append-nil, length-append}
+use Rattle.std.proofs.Common.{◌≡◌, ◌∙◌, refl, sym, ap, subst, ℕ, ◌+◌, ◌-◌, ◌^◌, ◌≤◌, min, List, [], ◌++◌, length, take, drop, Option, Some, Ok, Err, arith, length-append}
 use Rattle.std.specs.List.{slice_get}
 use Rattle.std.specs.Global.{Vec}
 use Rattle.std.specs.Io.KnownBytes.{Appends}
 use Rattle.std.proofs.KnownBytes.{Appends-nil, Appends-trans}
 use Rattle.std.proofs.Math.Seq.{take-append-add}
 use Rattle.query_tree.specs.Asked.{Asked}
-use Rattle.outside.specs.Devices.{Device, IsCalm, Fails, AppendsPrefix, AppendsPart}
+use Rattle.outside.specs.Devices.{Device, IsCalm, AppendsPrefix, AppendsPart}
 use Rattle.outside.specs.Calls.{WritesAll}
 use Rattle.outside.specs.declared.sink.SinkError.{SinkError}
 use Rattle.outside.specs.declared.sink.SinkError.TheVariants as sink
@@ -18,14 +18,13 @@ use Rattle.store_read.specs.declared.read_stop.ReadStop.{ReadStop}
 use Rattle.store_read.specs.declared.read_stop.ReadStop.TheVariants as stop
 use Rattle.store_read.proofs.Reading.{asks_all}
 use Rattle.store_file.specs.Places.{fault_of, write_fault}
-use Rattle.store_file.specs.SeenGroups.{Seen, all_found, with_group, seen_of}
-use Rattle.store_file.specs.FileCalls.{groups_in, group_lines, lines_seen, chunks_in, plan_of, PrintsFirst, Queries}
+use Rattle.store_file.specs.SeenGroups.{Seen, seen_of}
+use Rattle.store_file.specs.FileCalls.{groups_in, group_lines, lines_seen, chunks_in, PrintsFirst, Queries}
 use Rattle.store_file.specs.declared.file_faults.Violation.{Violation}
 use Rattle.store_file.specs.declared.file_faults.QueryFault.{QueryFault}
 use Rattle.store_file.specs.declared.file_faults.QueryFault.TheVariants as fault
 use Rattle.store_file.specs.declared.store_file.StoreFile.{StoreFile}
-use Rattle.store_file.proofs.SeenGroups.{behind}
-use Rattle.store_file.proofs.Walks.{AskedGroups, asked_none, asked_more, asked_first, asked_fails, asked_part, asked_all, of_before, all_taken, seen_more, seen_next, seen_stops, seen_front}
+use Rattle.store_file.proofs.Walks.{AskedGroups, asked_none, asked_more, asked_first, asked_fails, asked_all, of_before, all_taken, seen_more, seen_next, seen_stops, seen_front}
 
 -- the lines of the first k groups were written, and their chunks were asked for
 pub record Wrote (f : StoreFile) (asked : Asked) (before now : Storage) (old new : Device) (k : ℕ) : Type 0 where

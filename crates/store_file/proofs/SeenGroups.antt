@@ -1,6 +1,5 @@
 -- Groups that were seen, and those behind them.
-use Rattle.std.proofs.Common.{◌≡◌, ◌∙◌, refl, sym, ap, subst, ℕ, zero, suc, ◌+◌, ◌<◌, ◌≤◌, List, [], ◌∷◌, ◌++◌, length, take, drop, Option, None, Some, Result, Ok, Err, arith, append_assoc, append-nil}
-use Rattle.std.specs.List.{slice_get}
+use Rattle.std.proofs.Common.{◌≡◌, ◌∙◌, sym, ap, ℕ, ◌+◌, List, [], ◌∷◌, ◌++◌, length, Option, None, Some, Result, Ok, Err, arith, append_assoc}
 use Rattle.store_file.specs.SeenGroups.{Seen, all_found, with_group, seen_of}
 use Rattle.store_file.specs.declared.file_faults.Violation.{Violation}
 

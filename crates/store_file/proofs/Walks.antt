@@ -1,6 +1,6 @@
 -- The walk over the groups of a file: what was asked for, and what was found in them.
-use Rattle.std.proofs.Common.{◌≡◌, ◌∙◌, refl, sym, ap, subst, ℕ, suc, ◌+◌, ◌<◌, ◌≤◌, List, [], ◌∷◌, ◌++◌, length, get_or, take, drop, Option, None, Some, Result, Ok, Err, arith, append_assoc, append-nil}
-use Rattle.std.specs.List.{slice_get, flat_map}
+use Rattle.std.proofs.Common.{◌≡◌, ◌∙◌, refl, sym, ap, subst, ℕ, ◌+◌, ◌<◌, ◌≤◌, List, [], ◌∷◌, ◌++◌, length, get_or, take, drop, Some, Result, Ok, Err, arith, append_assoc, append-nil}
+use Rattle.std.specs.List.{slice_get}
 use Rattle.std.proofs.lemmas.Option.{slice_get_within, slice_get-get_or}
 use Rattle.std.proofs.lemmas.List.{take_more, drop_more, take-append-drop, length-take-le, length-drop}
 use Rattle.std.proofs.lemmas.Grind.{flat_map-append}
@@ -9,7 +9,7 @@ use Rattle.shelf.specs.declared.byte_range.ByteRange.{ByteRange}
 use Rattle.footer_structs.specs.declared.row_groups.GroupMeta.{GroupMeta}
 use Rattle.store_read.specs.Ranges.{IsFile, OfFile, with_ranges, Asks, AsksFirst, FailsAt}
 use Rattle.store_read.proofs.Reading.{no_ranges}
-use Rattle.store_file.specs.SeenGroups.{Seen, all_found, with_group, seen_of}
+use Rattle.store_file.specs.SeenGroups.{all_found, with_group, seen_of}
 use Rattle.store_file.specs.FileCalls.{groups_in, chunks_in, plan_of}
 use Rattle.store_file.specs.declared.file_faults.Violation.{Violation}
 use Rattle.store_file.specs.declared.store_file.StoreFile.{StoreFile}

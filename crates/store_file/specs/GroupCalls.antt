@@ -1,5 +1,5 @@
 -- What is read of one group of a file.
-use Rattle.std.specs.Prelude.{◌≡◌, ℕ, Bool, List, length, Option, Result, Ok, Err}
+use Rattle.std.specs.Prelude.{◌≡◌, ℕ, List, length, Option, Result, Ok, Err}
 use Rattle.json_tree.specs.Json.{Json}
 use Rattle.vs_bytes.specs.declared.refused.Refused.{Refused}
 use Rattle.vs_bytes.specs.declared.refused.Refused.TheVariants.{Fault, NoMemory}

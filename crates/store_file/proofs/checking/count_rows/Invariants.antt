@@ -1,4 +1,4 @@
-use Rattle.std.proofs.Common.{◌≡◌, ◌+◌, ◌≤◌}
+use Rattle.std.proofs.Common.{◌+◌, ◌≤◌}
 use Rattle.shred_schema.specs.Views.{group_of}
 use Rattle.group_reading.specs.RowsAhead.{StandsFor}
 use Rattle.group_lines.specs.Lines.{rows_left}
