@@ -21,7 +21,7 @@ use Rattle.shelf.specs.declared.shelf.ShelfError.{ShelfError}
 use Rattle.shelf.specs.declared.shelf.ShelfError.TheVariants as shelf
 use Rattle.shelf.proofs.Appending.{has_appended}
 use Rattle.shelf.proofs.Adding.{adds_later, adds_more}
-use Rattle.store_write.specs.Writers.{chunks_with, closed_with, IsClosed, Closes, end_bytes, IsShortEnd, EndsWith, Finishes, StandsBy, StandsIn, MadeIn, settings_in, node_in}
+use Rattle.store_write.specs.Writers.{chunks_with, closed_with, IsClosed, Closes, left_closed, end_bytes, IsShortEnd, EndsWith, Finishes, StandsBy, StandsIn, MadeIn, settings_in, node_in}
 use Rattle.store_write.specs.declared.write_error.First.{First}
 use Rattle.store_write.specs.declared.write_error.First.TheVariants as first
 
@@ -90,7 +90,7 @@ finishes_alone name g c before after (x ∷ xs) r none ends = absurd (omega arit
 finishes_alone name g c before after [] (Ok u) none ends = (ends, tt)
 finishes_alone name g c before after [] (Err first.Failed) none ends = (tt, ends)
 finishes_alone name g c before after [] (Err (first.FooterFull len)) none ends = absurd ends
-finishes_alone name g c before after [] (Err first.NoMemory) none ends = elim ends [ | inl same ↦ inl same | inr part ↦ inr (tt, part) ]
+finishes_alone name g c before after [] (Err first.NoMemory) none ends = elim ends [ inl same ↦ inl same | inr part ↦ inr (tt, part) ]
 
 -- The file of the rows.
 

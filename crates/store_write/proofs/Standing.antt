@@ -1,5 +1,5 @@
 -- What stands after one more row.
-use Rattle.std.proofs.Common.{◌≡◌, ◌∙◌, ℕ, ◌+◌, ◌≤◌, List, [], ◌∷◌, ◌++◌, length, map, Bool, true, false, cond, Option, None, Some, Result, Ok, Err, unwrap_or, sym, ap, subst, refl, arith, nat_le, ℤ}
+use Rattle.std.proofs.Common.{◌≡◌, ◌∙◌, ℕ, ◌+◌, ◌<◌, ◌≤◌, List, [], ◌∷◌, ◌++◌, length, map, Bool, true, false, cond, Option, None, Some, Result, Ok, Err, unwrap_or, sym, ap, subst, refl, arith, nat_le, ℤ}
 use Rattle.std.specs.Prelude.{MatchBool}
 use Rattle.std.specs.FinMap.{get, insert}
 use Rattle.std.proofs.lemmas.List.{map-append, length-append, length-map}
@@ -163,7 +163,7 @@ cut_full g rows row rest full is records texts =
 pub closed_pushed : (g : Open) (c : Closed) (bytes : List ℕ) (rows : List (Option Json)) (row : Option Json) → is_full_with g row ≡ true → footer_size (closed_with g c (records_with g row)) ≤ footer_limit
     → StandsBy g.settings (node_of g) g c bytes rows
     → body_of (format g.settings (node_of g)) (cut_of (is_full g.settings (node_of g)) (rows ++ row ∷ [])).closed
-      ≡ Ok (record { bytes = bytes ++ concat (chunks_with g (records_with g row)); metas = (closed_with g c (records_with g row)).groups })
+    ≡ Ok (record { bytes = bytes ++ concat (chunks_with g (records_with g row)); metas = (closed_with g c (records_with g row)).groups })
 closed_pushed g c bytes rows row full short k =
     let cut : Cut (Option Json) = cut_of (is_full g.settings (node_of g)) rows in
     ap (λ (x : Cut (Option Json)). body_of (format g.settings (node_of g)) x.closed) (cut_full g rows row cut.rest full refl k.rest k.texts)

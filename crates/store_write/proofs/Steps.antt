@@ -1,6 +1,6 @@
 -- What the calls of a writer leave follows from their contracts.
 use Rattle.std.proofs.Common.{◌≡◌, ◌∙◌, ℕ, ◌≤◌, ◌<◌, List, [], ◌∷◌, ◌++◌, length, take, Bool, true, false, Option, None, Some, Result, Ok, Err, inl, inr, sym, ap, subst, refl, arith, append-nil, unwrap_or}
-use Rattle.std.specs.Prelude.{◌⊎◌, MatchBool, IfSome, IfOk}
+use Rattle.std.specs.Prelude.{MatchBool, IfSome, IfOk}
 use Rattle.std.specs.List.{concat}
 use Rattle.std.specs.FinMap.{insert}
 use Rattle.json_tree.specs.Json.{Json}
@@ -8,16 +8,16 @@ use Rattle.shred_schema.specs.Groups.{Group}
 use Rattle.shred_schema.specs.Views.{group_of}
 use Rattle.shred_schema.specs.declared.nodes.Column.{Column}
 use Rattle.open_group.specs.declared.settings.Settings.{Settings}
-use Rattle.open_group.specs.OpenGroups.{records_in, KeepsColumn}
+use Rattle.open_group.specs.OpenGroups.{records_in}
 use Rattle.closed_groups.specs.ClosedGroups.{magic, footer_size, footer_limit}
-use Rattle.shelf.specs.Storage.{Files, Storage, Has, Lacks, with_file, appended, FailsWrite}
+use Rattle.shelf.specs.Storage.{Files, Storage, Has, with_file, appended, FailsWrite}
 use Rattle.shelf.specs.Calls.{Creates, Adds}
 use Rattle.shelf.specs.declared.shelf.ShelfError.TheVariants as shelf
 use Rattle.shelf.proofs.Appending.{appended_none, get_inserted, insert_again}
 use Rattle.store_write.specs.Frames as frame
 use Rattle.store_write.specs.Refusals.{told_of, refused_in}
-use Rattle.store_write.specs.Writers.{Stands, StandsBy, IsFor, KeepsForm, name_of, node_in, settings_in, broken_by, Starts, error_of, AddsRow, EndsFile, IsClosed, IsKept, Closes, Pushes, Finishes, chunks_with, closed_with, records_with, is_full_with, end_bytes, left_closed}
-use Rattle.store_write.specs.Steps.{AreClosed, Keeps, Begins, BeginsPart, NotBegun, TakesRow, Gains, CutsRow, RowOverflows, NotTaken, Completes, CutsEnd, EndOverflows, NotEnded, Starting, Pushing, Ending, format_in}
+use Rattle.store_write.specs.Writers.{Stands, IsFor, KeepsForm, name_of, broken_by, Starts, error_of, AddsRow, EndsFile, IsClosed, IsKept, Closes, Pushes, Finishes, chunks_with, closed_with, records_with, is_full_with, end_bytes}
+use Rattle.store_write.specs.Steps.{AreClosed, Keeps, BeginsPart, NotBegun, TakesRow, Gains, CutsRow, CutsEnd, Starting, Pushing, Ending, format_in}
 use Rattle.store_write.specs.declared.file_writer.FileWriter.{FileWriter}
 use Rattle.store_write.specs.declared.write_error.First.{First}
 use Rattle.store_write.specs.declared.write_error.First.TheVariants as first

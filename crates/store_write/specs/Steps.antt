@@ -1,5 +1,5 @@
 -- What the calls of a writer leave, for any bytes and rows for which it stands: by cases on the answer.
-use Rattle.std.specs.Prelude.{◌≡◌, ◌⊎◌, ℕ, ◌≤◌, List, [], ◌∷◌, ◌++◌, length, take, Option, None, Some, Result, Ok, Err}
+use Rattle.std.specs.Prelude.{◌≡◌, ◌⊎◌, ℕ, ◌≤◌, List, [], ◌∷◌, ◌++◌, length, take, Option, Some, Result, Ok, Err}
 use Rattle.json_tree.specs.Json.{Json}
 use Rattle.shred_schema.specs.Groups.{Group}
 use Rattle.footer_structs.specs.declared.row_groups.GroupMeta.{GroupMeta}
