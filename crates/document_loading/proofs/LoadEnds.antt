@@ -1,27 +1,25 @@
 -- The ends of a load.
-use Rattle.std.proofs.Common.{◌≡◌, ◌∙◌, ◌⊎◌, inl, inr, refl, sym, ap, subst, ℕ, ◌+◌, ◌≤◌, List, [], ◌∷◌, ◌++◌, length, take, Option, Some, None, Result, Ok, Err, append_assoc, append-nil, unwrap_or, arith}
-use Rattle.std.proofs.lemmas.List.{take-append-le, take_all}
+use Rattle.std.proofs.Common.{◌≡◌, ◌∙◌, ◌⊎◌, inl, inr, refl, sym, ap, subst, ℕ, ◌+◌, ◌≤◌, List, [], ◌∷◌, ◌++◌, length, take, Option, Some, Ok, Err, append_assoc, append-nil, arith}
+use Rattle.std.proofs.lemmas.List.{take_all}
 use Rattle.std.proofs.Math.Seq.{take-append-add}
-use Rattle.std.specs.FinMap.{get, insert}
 use Rattle.outside.specs.Devices.{Device, IsCalm}
 use Rattle.json_tree.specs.Json.{Json}
-use Rattle.json_documents.specs.Documents.{at_end, at_line, at_limit, HasDocuments}
+use Rattle.json_documents.specs.Documents.{at_end, HasDocuments}
 use Rattle.json_documents.specs.Input.{OfInput, Begins, GivesAll, Stops, Faulted}
-use Rattle.json_documents.specs.Taking.{TookAll, TookSome}
 use Rattle.json_documents.specs.declared.faults.InputFault.{InputFault}
 use Rattle.json_documents.specs.declared.faults.Stop.TheVariants.{Input, Taker}
 use Rattle.command_parsing.specs.Commands.{Load, load_of}
 use Rattle.command_parsing.specs.declared.load.LoadCommand.{LoadCommand}
 use Rattle.open_group.specs.OpenGroups.{IsSettings}
 use Rattle.striping_laws.specs.Rows.{min_page_bytes}
-use Rattle.shelf.specs.Storage.{Storage, Files, Has, Lacks, with_file, appended, FailsWrite}
+use Rattle.shelf.specs.Storage.{Storage, Has, Lacks, with_file, appended, FailsWrite}
 use Rattle.shred_schema.specs.Groups.{Group}
-use Rattle.shelf.proofs.Appending.{get_inserted, insert_again, has_created, has_appended}
+use Rattle.shelf.proofs.Appending.{has_created, has_appended}
 use Rattle.closed_groups.specs.ClosedGroups.{magic}
 use Rattle.store_write.specs.Cutting.{cut_of}
 use Rattle.store_write.specs.Frames.{body_of, made}
 use Rattle.store_write.specs.Made as written
-use Rattle.store_write.specs.Writers.{Stands, name_of, node_in, settings_in, broken_by}
+use Rattle.store_write.specs.Writers.{Stands, name_of, node_in, settings_in}
 use Rattle.store_write.specs.Steps as step
 use Rattle.store_write.specs.Steps.{Keeps, AreClosed, NotBegun, NotTaken, NotEnded, Gains, CutsRow, CutsEnd, Completes, format_in}
 use Rattle.store_write.proofs.Steps.{with_more, closed_by}
@@ -29,8 +27,8 @@ use Rattle.store_write.specs.declared.file_writer.FileWriter.{FileWriter}
 use Rattle.open_group.specs.declared.settings.Settings.{Settings}
 use Rattle.store_write.specs.declared.write_error.WriteError.{WriteError}
 use Rattle.store_write.specs.declared.write_error.WriteError.TheVariants.{Taken, Failed, FooterFull, NoMemory, Broken}
-use Rattle.document_loading.specs.Taken.{rows_of, Took, TookIf, Refused, RefusedIf}
-use Rattle.document_loading.specs.Loading.{Intake, intake, settings_of, format, Leaves, Writes, IsMade, IsClosed, IsPart, IsLong, IsLongAtEnd, OfAll, Overflows, WritesPart, WritesNone, NotLoaded, Loads}
+use Rattle.document_loading.specs.Taken.{rows_of, Took}
+use Rattle.document_loading.specs.Loading.{intake, settings_of, format, Leaves, IsClosed, WritesPart, Loads}
 
 -- a writer of this load has written these bytes of these documents
 pub record IsAt (load : Load) (first now : Storage) (v : FileWriter) (documents : List Json) : Type 0 where

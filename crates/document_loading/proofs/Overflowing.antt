@@ -1,7 +1,7 @@
 -- A footer that is too long with a group stays too long.
-use Rattle.std.proofs.Common.{◌≡◌, ◌∙◌, refl, sym, ap, ℕ, List, [], ◌∷◌, ◌++◌, Bool, true, false, cond, fold, Option, Result, Ok, Err, append_assoc, append-nil}
-use Rattle.store_write.specs.Cutting.{Cut, with_row, cut_of, with_last, groups_of}
-use Rattle.store_write.specs.Frames.{Format, Body, begun, close, body_of, with_ending, made}
+use Rattle.std.proofs.Common.{◌≡◌, ◌∙◌, refl, sym, ap, ℕ, List, [], ◌∷◌, ◌++◌, Bool, true, false, cond, fold, Ok, Err, append_assoc, append-nil}
+use Rattle.store_write.specs.Cutting.{Cut, with_row, cut_of, with_last}
+use Rattle.store_write.specs.Frames.{Format, begun, close, body_of, with_ending, made}
 
 fold_append : {A B : Type 0} (f : A → B → A) (a : A) (xs ys : List B) → fold f a (xs ++ ys) ≡ fold f (fold f a xs) ys
 fold_append f a [] ys = refl

@@ -1,6 +1,5 @@
 -- Documents that a writer takes, one by one.
 use Rattle.std.proofs.Common.{◌≡◌, ◌∙◌, refl, sym, ap, subst, ℕ, List, [], ◌∷◌, ◌++◌, Option, Some, Result, Ok, Err, OnOk, append_assoc, arith, true}
-use Rattle.std.proofs.lemmas.List.{map-append}
 use Rattle.json_tree.specs.Json.{Json}
 use Rattle.json_documents.specs.Taking.{Takes}
 use Rattle.json_documents.specs.Documents.{IsInputValue}

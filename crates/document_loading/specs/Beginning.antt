@@ -1,8 +1,8 @@
 -- No documents are taken where nothing changed: stands here for a law of a trait, which takes no lemma of proofs/.
-use Rattle.std.specs.Prelude.{◌≡◌, List, ℕ, [], ◌++◌, Option, Some, refl}
+use Rattle.std.specs.Prelude.{List, ℕ, [], ◌++◌, Option, refl}
 use Rattle.std.proofs.Common.{ap, sym, subst, append-nil}
 use Rattle.json_tree.specs.Json.{Json}
-use Rattle.shelf.specs.Storage.{Storage, Has}
+use Rattle.shelf.specs.Storage.{Storage}
 use Rattle.shelf.proofs.Appending.{appended_none}
 use Rattle.store_write.specs.Writers.{Stands, name_of}
 use Rattle.store_write.specs.declared.file_writer.FileWriter.{FileWriter}

@@ -1,10 +1,8 @@
 use Rattle.std.proofs.Common.{refl}
 use Rattle.std.specs.Prelude.{Ok, Err}
-use Rattle.shred_schema.specs.Views.{group_of}
 use Rattle.store_write.specs.Writers.{broken_by}
 use Rattle.store_write.proofs.Steps.{starting, ending}
 use Rattle.command_parsing.specs.Commands.{load_of}
-use Rattle.document_loading.specs.Loading.{settings_of}
 use Rattle.document_loading.proofs.LoadEnds.{can_be_chosen, has_begun, is_at, still_there, not_started, stopped, ended, not_ended, not_taken}
 use Rattle.document_loading.proofs.loading.load.Goals as goal
 

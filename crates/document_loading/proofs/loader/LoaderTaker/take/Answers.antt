@@ -1,4 +1,4 @@
-use Rattle.std.proofs.Common.{refl, ap}
+use Rattle.std.proofs.Common.{refl}
 use Rattle.json_tree.specs.View.{view}
 use Rattle.store_write.specs.Writers.{broken_by}
 use Rattle.store_write.proofs.Steps.{pushing}
