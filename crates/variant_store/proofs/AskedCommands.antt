@@ -1,5 +1,5 @@
 -- Words that ask for a command are wrong in no way.
-use Rattle.std.proofs.Common.{◌≡◌, ap, subst, ℕ, List, [], ◌∷◌, Option, Some, None}
+use Rattle.std.proofs.Common.{◌≡◌, ap, subst, ℕ, List, [], ◌∷◌, Option, Some}
 use Rattle.command_parsing.proofs.AskedOnce.{scan_right, variant_right, load_right, scan_once, variant_once, load_once}
 use Rattle.command_parsing.specs.declared.fault.BadWords.{BadWords}
 use Rattle.variant_store.specs.Commands.{Command, prints, loads, name_of, widths_given, AskCommand, AskFor, AskCommandWrongly, AskWrongly}

@@ -12,7 +12,7 @@ use Rattle.document_loading.specs.Loading.{Loads, Overflows, format}
 use Rattle.document_loading.specs.Taken.{rows_of}
 use Rattle.document_loading.proofs.Overflowing.{long_stays}
 use Rattle.json_documents.specs.Input.{Begins}
-use Rattle.outside.specs.Devices.{Device, Fails}
+use Rattle.outside.specs.Devices.{Device}
 use Rattle.outside.specs.declared.sink.SinkError.TheVariants as sink
 use Rattle.json_tree.specs.Json.{Json}
 use Rattle.json_documents.specs.Documents.{Ending, at_end, HasDocuments}
@@ -25,7 +25,7 @@ use Rattle.variant_store.specs.Commands.{Command, prints, loads, AskFor}
 use Rattle.variant_store.specs.Ends.{stream_end, load_end}
 use Rattle.variant_store.specs.Stream.{Stream}
 use Rattle.variant_store.specs.Streaming.{Streams}
-use Rattle.variant_store.specs.Top.{Does, Runs, Ends, HasAll, IsAdmitted, HasFailed, Completes}
+use Rattle.variant_store.specs.Top.{Does, Runs, Ends, IsAdmitted, HasFailed, Completes}
 use Rattle.variant_store.specs.World.{World, pipe_in, intake_in}
 use Rattle.variant_store.specs.declared.gatherer.OutputFault.{OutputFault}
 use Rattle.variant_store.specs.declared.gatherer.OutputFault.TheVariants as output

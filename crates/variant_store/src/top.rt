@@ -58,17 +58,23 @@ fn run<S: Shelf, I: Source, O: Sink>(
 /// |---|---|
 /// | `scan [--where FILTER] PATH..` | prints the matches of 1 to 64 paths in each document of the input on which the filter holds |
 /// | `variant [--offset-width N] [--id-width N]` | prints the metadata and the value of each document of the input as a Variant, in hex; its offsets and field ids take at least N bytes each; an N is a number from 1 to 4, of 1 to 10 digits, and 1 where it isn't given |
+/// | `load OUT [--schema SCHEMA] [--offset-width N] [--id-width N] [--page-bytes N] [--group-rows N]` | writes the documents of the input to a new file OUT of the shelf, a row each, in a column `doc` that is shredded by the schema |
 ///
 /// | Status | Line on `err` | Where |
 /// |---|---|---|
 /// | 0 | none | the job was done, the input was read to its end, and no read or write failed |
 /// | 2 | `vstore: usage` | the words aren't those of a command |
+/// | 2 | `vstore: bad schema` | the schema isn't in its grammar |
 /// | 2 | `vstore: bad filter`, `vstore: bad order`, `vstore: bad path`, `vstore: repeated path` | the filter isn't in its grammar; a relation in it doesn't suit its literal; a path isn't in its grammar; two paths have one canonical text |
 /// | 3 | `vstore: line N: FAULT` | line N is the first that has a fault ([`DocFault`]); all lines before it are answered |
 /// | 3 | `vstore: input too long` | more than 2^40 bytes came; all lines before the one that the limit falls into are answered |
+/// | 3 | `vstore: footer full` | the footer of OUT would be longer than 67,108,864 bytes with a group; OUT has the groups before it |
 /// | 5 | `vstore: read fault` | a read failed; all lines whose LF had come are answered |
-/// | 6 | `vstore: write fault` | a write to `out` failed; what it gained is a prefix of the answer |
-/// | 7 | `vstore: no memory` | there was no memory for something; what `out` gained is a prefix of the answer |
+/// | 6 | `vstore: write fault` | a write to `out` or to the shelf failed; what `out` gained is a prefix of the answer, and what OUT has is one of its groups or of the whole file |
+/// | 7 | `vstore: no memory` | there was no memory for something; what `out` gained, and what OUT has, are such prefixes |
+/// | 9 | `vstore: taken` | OUT was there; it is as before |
+///
+/// After a fault of the input OUT has the magic number and all groups that closed, and no footer is begun.
 ///
 /// A fault of `err` changes no status; where there is no memory for its line the status is 7.
 pub fn vstore<S: Shelf, I: Source, O: Sink, E: Sink>(
