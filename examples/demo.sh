@@ -1,6 +1,6 @@
 #!/usr/bin/env bash
 # Runs three queries on the example data, and shows each command with what it prints. The proved program
-# runs them where it is built; else its sources do, unproved, which takes half a minute.
+# runs them where it is built; else its sources do, unproved, which takes about a minute.
 #
 # usage: examples/demo.sh PROGRAM
 set -euo pipefail
@@ -50,7 +50,7 @@ if [ -x "$program" ]; then
     echo "# by the proved program, $(realpath --relative-to=.. "$program")"
     run=run_proved
 else
-    echo "# unproved, by 'rt try', since the program isn't built: half a minute ('make build' proves and builds it)"
+    echo "# unproved, by 'rt try', since the program isn't built: about a minute ('make build' proves and builds it)"
     run=run_unproved
 fi
 "$run" | while IFS= read -r line; do
