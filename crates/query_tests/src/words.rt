@@ -24,7 +24,7 @@ fn words_may_stand_in_any_order_up_to_two_dashes(rt: HostRuntime) -> Result<(), 
 
 #[test]
 fn words_of_no_command_are_usage(rt: HostRuntime) -> Result<(), Fail> {
-    let rows: [&[&str]; 27] = [
+    let rows: [&[&str]; 26] = [
         &[],
         &[""],
         &["", "$.a"],
@@ -32,7 +32,6 @@ fn words_of_no_command_are_usage(rt: HostRuntime) -> Result<(), Fail> {
         &["scan ", "$.a"],
         &["--where", "$ exists", "scan", "$"],
         &["query", "f"],
-        &["load", "f"],
         &["scan"],
         &["scan", "--"],
         &["scan", "--where"],
