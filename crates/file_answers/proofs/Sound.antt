@@ -24,6 +24,7 @@ query_done query a b (Err Absent) h s calm = absurd (h.leaves.of_file s.bytes s.
 query_done query a b (Err (Violated v)) (inl h) s calm = absurd (s.sound v (inl (record { whole = h.leaves.whole; wrong = h.leaves.unbegun.of_file s.bytes s.there })))
 query_done query a b (Err (Violated v)) (inr h) s calm = absurd (s.sound v (inr (record {
   file = h.file;
+  usable = h.begun.usable;
   is_of = h.begun.of_file s.bytes s.there;
   met = ap (λ (seen : Seen ℕ). seen.stop) (h.answers s.bytes s.there).lines;
 })))
@@ -36,7 +37,7 @@ pub check_done : (check : CheckGiven) (a b : Readout) (done : Result (Unit {0}) 
 check_done check a b (Ok u) h s calm = inl refl
 check_done check a b (Err Absent) h s calm = absurd (h.leaves.of_file s.bytes s.there)
 check_done check a b (Err (Violated v)) (inl h) s calm = absurd (s.sound v (inl (record { whole = h.leaves.whole; wrong = h.leaves.unbegun.of_file s.bytes s.there })))
-check_done check a b (Err (Violated v)) (inr h) s calm = absurd (s.sound v (inr (record { file = h.leaves.file; is_of = h.leaves.begun.of_file s.bytes s.there; met = h.leaves.judges s.bytes s.there })))
+check_done check a b (Err (Violated v)) (inr h) s calm = absurd (s.sound v (inr (record { file = h.leaves.file; usable = h.leaves.begun.usable; is_of = h.leaves.begun.of_file s.bytes s.there; met = h.leaves.judges s.bytes s.there })))
 check_done check a b (Err ReadFault) (inl h) s calm = absurd (calm (inl h.leaves.asks.leaves.0))
 check_done check a b (Err ReadFault) (inr h) s calm = absurd (calm (inl (read_failed check.file check.column h.leaves.file a.shelf h.leaves.between b.shelf h.leaves.begun h.leaves.asks.failed)))
 check_done check a b (Err WriteFault) h s calm = absurd (calm (inr h.prints.1))

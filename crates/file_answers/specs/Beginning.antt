@@ -7,7 +7,7 @@ use Rattle.thrift_footer.specs.Opening.{IsFile, IsMissing, IsUnopened, opening_r
 use Rattle.thrift_footer.specs.declared.opening.OpenFault.{OpenFault}
 use Rattle.thrift_footer.specs.declared.opening.OpenFault.TheVariants as fault
 use Rattle.file_columns.specs.Views.{shown}
-use Rattle.store_file.specs.Beginning.{beginning, Begins}
+use Rattle.store_file.specs.Beginning.{beginning, Begins, IsUsable}
 use Rattle.store_file.specs.declared.file_faults.Place.TheVariants as place
 use Rattle.store_file.specs.declared.file_faults.Violation.{Violation}
 use Rattle.store_file.specs.declared.store_file.StoreFile.{StoreFile}
@@ -37,12 +37,13 @@ pub record IsRefused (name column : List ℕ) (violation : Violation) (before af
 abbrev pub IsOf : List ℕ → List ℕ → StoreFile → Type 0
 IsOf column bytes file = beginning bytes column ≡ Ok (file.opened, shown file.column)
 
--- the file was begun: opening asked for its ranges, and nothing else changed
+-- the file was begun: opening asked for its ranges, and nothing else changed. All its leaves are read
 pub record IsBegun (name column : List ℕ) (file : StoreFile) (before after : Storage) : Type 0 where
   pub asks : opening.Asks before after name (opening_ranges name) (Ok file)
   pub of_file : (bytes : List ℕ) → IsFile before.files name bytes → IsOf column bytes file
   pub missing : IsMissing before.files name → IsUnopened (Ok file)
   pub is_named : file.name ≡ name
+  pub usable : IsUsable file
 
 -- how the beginning ends
 abbrev pub BeginsFile : List ℕ → List ℕ → Storage → Storage → Result StoreFile FileError → Type 0

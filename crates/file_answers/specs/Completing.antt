@@ -3,6 +3,7 @@ use Rattle.std.specs.Prelude.{◌≡◌, ◌⊎◌, ℕ, List, Some, Result, Ok,
 use Rattle.thrift_footer.specs.Opening.{IsFile}
 use Rattle.command_parsing.specs.Commands.{FileQuery}
 use Rattle.command_words.specs.Check.{CheckGiven}
+use Rattle.store_file.specs.Beginning.{IsUsable}
 use Rattle.store_file.specs.FileCalls.{lines_seen, rows_seen}
 use Rattle.store_file.specs.declared.file_faults.Violation.{Violation}
 use Rattle.store_file.specs.declared.store_file.StoreFile.{StoreFile}
@@ -13,12 +14,14 @@ use Rattle.file_answers.specs.declared.file_error.FileError.TheVariants.{NoMemor
 -- the first violation that a query meets in the groups of a file
 pub record MeetsViolation (query : FileQuery) (bytes : List ℕ) (violation : Violation) : Type 0 where
   pub file : StoreFile
+  pub usable : IsUsable file
   pub is_of : IsOf query.column bytes file
   pub met : (lines_seen file query.asked bytes).stop ≡ Some violation
 
 -- the first violation in all groups of a file
 pub record HasViolation (check : CheckGiven) (bytes : List ℕ) (violation : Violation) : Type 0 where
   pub file : StoreFile
+  pub usable : IsUsable file
   pub is_of : IsOf check.column bytes file
   pub met : (rows_seen file bytes).stop ≡ Some violation
 
