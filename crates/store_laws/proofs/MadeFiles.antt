@@ -1,7 +1,7 @@
 -- A file that is made of rows is valid, has these rows, and is honest.
-use Rattle.std.proofs.Common.{◌≡◌, ◌∙◌, refl, sym, ap, subst, ℕ, ◌+◌, ◌^◌, ◌<◌, ◌≤◌, ◌&&◌, true, List, [], ◌∷◌, ◌++◌, length, Option, Result, Ok, arith}
+use Rattle.std.proofs.Common.{◌≡◌, ◌∙◌, refl, sym, ap, subst, ℕ, suc, ◌+◌, ◌^◌, ◌<◌, ◌≤◌, ◌&&◌, true, List, [], ◌∷◌, ◌++◌, length, Option, Result, Ok, arith}
 use Rattle.std.specs.Prelude.{pos}
-use Rattle.std.specs.List.{AllByRecursion, flat_map, list_all}
+use Rattle.std.specs.List.{AllByRecursion, concat, flat_map, list_all}
 use Rattle.std.proofs.lemmas.Int.{ints}
 use Rattle.std.proofs.lemmas.List.{append_assoc, append-nil, length-append, length-map}
 use Rattle.std.proofs.lemmas.List.Elements.{All-from_recursion}
@@ -101,6 +101,10 @@ module _ (settings : Settings) (text : List ℕ) (n : Group) (chosen : IsSetting
       let meta : FileMeta = file_meta (schema_of n) (orders_of (paths_of n)) (metas_of (format settings n) 4 gs) in
       ap footer (sym (append-nil (footer_bytes meta))) ∙ footers.footer_reads_back meta [] reads
 
+metas_counted : (settings : Settings) (n : Group) (gs : List Rows) (place : ℕ) → length (metas_of (format settings n) place gs) ≡ length gs
+metas_counted settings n [] place = refl
+metas_counted settings n (g ∷ gs) place = ap suc (metas_counted settings n gs (place + length (concat ((format settings n).chunks g))))
+
 ok_opened : (a b : Opened) → ◌≡◌ {A = Result Opened Rule} (Ok a) (Ok b) → a ≡ b
 ok_opened a b e = cc
 
@@ -185,6 +189,10 @@ module _ (settings : Settings) (text : List ℕ) (n : Group) (rows : List (Optio
   pub file_column : (other : Opened) → opening file ≡ Ok other → column_of other.meta.schema column_name (orders_in other.meta.column_orders) ≡ Ok view
   file_column other opens_as =
       subst (λ (o : Opened). column_of o.meta.schema column_name (orders_in o.meta.column_orders) ≡ Ok view) (ok_opened opened_as other (sym file_opens ∙ opens_as)) column_is
+
+  pub file_groups : (other : Opened) → opening file ≡ Ok other → length other.meta.row_groups ≡ length (groups_of (cut_of (is_full settings n) rows))
+  file_groups other opens_as =
+      ap (λ (o : Opened). length o.meta.row_groups) (ok_opened other opened_as (sym opens_as ∙ file_opens)) ∙ metas_counted settings n (groups_of (cut_of (is_full settings n) rows)) 4
 
   ranges : (column : FileColumn) → shown column ≡ view → AllByRecursion (HasRanges (shown column).node (begin_of (length file) (length foot)) column) meta.row_groups
   ranges column same =
