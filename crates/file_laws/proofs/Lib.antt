@@ -1,0 +1,16 @@
+-- what a file is that was begun
+pub mod Starts
+-- what two files see that were begun from the same bytes
+pub mod SeenAlike
+-- the rows of a valid file, as calls see them
+pub mod ValidRows
+-- calls on valid files
+pub mod ValidFiles
+-- the first violation of a file
+pub mod OneViolation
+-- files that are made of rows
+pub mod MadeFiles
+-- files that a load wrote
+pub mod LoadedFiles
+-- what words ask a load to write
+pub mod LoadWords

@@ -1,0 +1,23 @@
+use Rattle.file_laws.proofs.OneViolation.{query_one, check_one, found_alike, query_names, check_names, query_not_done, check_not_done}
+use Rattle.file_laws.proofs.laws.violations_are_one.Goals as goal
+
+pub returns-clause-query_one : goal.returns-clause-query_one
+returns-clause-query_one c = query_one
+
+pub returns-clause-check_one : goal.returns-clause-check_one
+returns-clause-check_one c = check_one
+
+pub returns-clause-alike : goal.returns-clause-alike
+returns-clause-alike c = found_alike
+
+pub returns-clause-query_names : goal.returns-clause-query_names
+returns-clause-query_names c = query_names
+
+pub returns-clause-check_names : goal.returns-clause-check_names
+returns-clause-check_names c = check_names
+
+pub returns-clause-query_not_done : goal.returns-clause-query_not_done
+returns-clause-query_not_done c = query_not_done
+
+pub returns-clause-check_not_done : goal.returns-clause-check_not_done
+returns-clause-check_not_done c = check_not_done
