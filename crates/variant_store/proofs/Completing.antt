@@ -11,8 +11,11 @@ use Rattle.store_write.specs.declared.write_error.WriteError.TheVariants as writ
 use Rattle.document_loading.specs.Loading.{Loads, Overflows, format}
 use Rattle.document_loading.specs.Taken.{rows_of}
 use Rattle.document_loading.proofs.Overflowing.{long_stays}
+use Rattle.file_answers.proofs.Sound.{query_done, check_done}
+use Rattle.file_answers.specs.Completing.{IsDone}
+use Rattle.file_answers.specs.declared.file_error.FileError.{FileError}
 use Rattle.json_documents.specs.Input.{Begins}
-use Rattle.outside.specs.Devices.{Device}
+use Rattle.outside.specs.Devices.{Device, Fails}
 use Rattle.outside.specs.declared.sink.SinkError.TheVariants as sink
 use Rattle.json_tree.specs.Json.{Json}
 use Rattle.json_documents.specs.Documents.{Ending, at_end, HasDocuments}
@@ -20,13 +23,13 @@ use Rattle.json_documents.specs.declared.faults.InputFault.TheVariants as why
 use Rattle.json_documents.specs.declared.faults.Stop.{Stop}
 use Rattle.json_documents.specs.declared.faults.Stop.TheVariants.{Input, Taker}
 use Rattle.json_documents.proofs.Walks.{walks_once}
-use Rattle.variant_store.proofs.AskedCommands.{not_wrong, stream_or_load, one_load}
-use Rattle.variant_store.specs.Commands.{Command, prints, loads, AskFor}
-use Rattle.variant_store.specs.Ends.{stream_end, load_end}
+use Rattle.variant_store.proofs.AskedCommands.{not_wrong, one_command}
+use Rattle.variant_store.specs.Commands.{Command, prints, loads, queries, checks, AskFor}
+use Rattle.variant_store.specs.Ends.{stream_end, load_end, file_end}
 use Rattle.variant_store.specs.Stream.{Stream}
 use Rattle.variant_store.specs.Streaming.{Streams}
-use Rattle.variant_store.specs.Top.{Does, Runs, Ends, IsAdmitted, HasFailed, Completes}
-use Rattle.variant_store.specs.World.{World, pipe_in, intake_in}
+use Rattle.variant_store.specs.Top.{Does, Runs, Ends, HasAll, IsAdmitted, HasFailed, Completes}
+use Rattle.variant_store.specs.World.{World, pipe_in, intake_in, readout_in}
 use Rattle.variant_store.specs.declared.gatherer.OutputFault.{OutputFault}
 use Rattle.variant_store.specs.declared.gatherer.OutputFault.TheVariants as output
 use Rattle.variant_store.specs.declared.command_error.CommandError.{CommandError}
@@ -94,16 +97,29 @@ completes_load load before after err err_now status (Err (Taker (write.FooterFul
 completes_load load before after err err_now status (Err (Taker write.NoMemory)) s e a calm = inr (seven status err err_now e)
 completes_load load before after err err_now status (Err (Taker (write.Broken first))) s e a calm = absurd s
 
--- by the command that was done, and the one that the words ask for
+-- a call on a file that did its work, or lacked memory
+completes_file : (err err_now : Device) (status : ℕ) (end : Result (Unit {0}) FileError) → Ends (file_end end) status err err_now → IsDone end → (status ≡ 0) ⊎ (status ≡ 7)
+completes_file err err_now status end e (inl is) = inl (subst (λ (d : Result (Unit {0}) FileError). Ends (file_end d) status err err_now) is e).0
+completes_file err err_now status end e (inr is) = inr (seven status err err_now (subst (λ (d : Result (Unit {0}) FileError). Ends (file_end d) status err err_now) is e))
+
+-- by the command that was done
+completes_done : (command : Command) (before after : World) (err err_now : Device) (status : ℕ) (done : Result (Unit {0}) CommandError) → Does command before after done
+    → Ends done status err err_now → IsAdmitted command before → (HasFailed command before after → ⊥) → (status ≡ 0) ⊎ (status ≡ 7)
+completes_done (prints stream) before after err err_now status done does e a calm =
+    completes_stream stream before after err err_now status does.0 does.2 (subst (λ (d : Result (Unit {0}) CommandError). Ends d status err err_now) does.1 e) a calm
+completes_done (loads load) before after err err_now status done does e a calm =
+    completes_load load before after err err_now status does.0 does.2 (subst (λ (d : Result (Unit {0}) CommandError). Ends d status err err_now) does.1 e) a calm
+completes_done (queries query) before after err err_now status done does e a calm =
+    completes_file err err_now status does.0 (subst (λ (d : Result (Unit {0}) CommandError). Ends d status err err_now) does.1 e) (query_done query (readout_in before) (readout_in after) does.0 does.2 a calm)
+completes_done (checks check) before after err err_now status done does e a calm =
+    completes_file err err_now status does.0 (subst (λ (d : Result (Unit {0}) CommandError). Ends d status err err_now) does.1 e) (check_done check (readout_in before) (readout_in after) does.0 does.2 a calm)
+
+-- it is the one that the words ask for
 completes_command : (words : List (List ℕ)) (done_so wanted : Command) (before after : World) (err err_now : Device) (status : ℕ) (done : Result (Unit {0}) CommandError) → AskFor words done_so → AskFor words wanted → Does done_so before after done
     → Ends done status err err_now → IsAdmitted wanted before → (HasFailed wanted before after → ⊥) → (status ≡ 0) ⊎ (status ≡ 7)
-completes_command words (prints stream) (prints other) before after err err_now status done f g does e a calm =
-    completes_stream stream before after err err_now status does.0 does.2 (subst (λ (d : Result (Unit {0}) CommandError). Ends d status err err_now) does.1 e) a calm
-completes_command words (prints stream) (loads load) before after err err_now status done f g does e a calm = absurd (stream_or_load words stream load f g)
-completes_command words (loads load) (prints stream) before after err err_now status done f g does e a calm = absurd (stream_or_load words stream load g f)
-completes_command words (loads load) (loads other) before after err err_now status done f g does e a calm =
-    let same = one_load words load other f g in
-    completes_load load before after err err_now status does.0 does.2 (subst (λ (d : Result (Unit {0}) CommandError). Ends d status err err_now) does.1 e) (subst (λ (l : Load). IsAdmitted (loads l) before) (sym same) a) calm
+completes_command words done_so wanted before after err err_now status done f g does e a calm =
+    let same = one_command words wanted done_so g f in
+    completes_done done_so before after err err_now status done does e (subst (λ (c : Command). IsAdmitted c before) same a) (λ failed. calm (subst (λ (c : Command). HasFailed c before after) (sym same) failed))
 
 pub completes : (words : List (List ℕ)) (before after : World) (err err_now : Device) (status : ℕ) (done : Result (Unit {0}) CommandError) → Runs words before after done → Ends done status err err_now → Completes words before after status
 completes words before after err err_now status done (inl works) e = λ wanted ask a calm. completes_command words works.command wanted before after err err_now status done works.asked ask works.does e a calm

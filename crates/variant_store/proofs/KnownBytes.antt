@@ -8,12 +8,12 @@ use Rattle.json_documents.specs.Documents.{at_end}
 use Rattle.json_documents.specs.declared.faults.InputFault.TheVariants as why
 use Rattle.json_documents.specs.declared.faults.Stop.{Stop}
 use Rattle.json_documents.specs.declared.faults.Stop.TheVariants.{Input, Taker}
-use Rattle.variant_store.specs.Commands.{Command, prints, loads, AskFor}
+use Rattle.variant_store.specs.Commands.{Command, prints, loads, queries, checks, AskFor, ReadsInput}
 use Rattle.variant_store.specs.Ends.{stream_end, load_end}
 use Rattle.command_parsing.specs.Commands.{Load}
 use Rattle.store_write.specs.declared.write_error.WriteError.{WriteError}
 use Rattle.document_loading.specs.Loading.{Loads, intake}
-use Rattle.variant_store.proofs.AskedCommands.{one_stream, stream_or_load}
+use Rattle.variant_store.proofs.AskedCommands.{one_command, one_stream, stream_or_load, stream_or_query, stream_or_check}
 use Rattle.variant_store.specs.InMemory.{Prints, IsNamed, StopsAtLine, StopsAtLimit}
 use Rattle.variant_store.specs.Report.{Reports, IsReported, status_of}
 use Rattle.variant_store.specs.Stream.{Stream}
@@ -51,18 +51,22 @@ whole words stream shelf shelf_now input left out out_now asks works = by works.
     by : (command : Command) → AskFor words command → Does command (in_memory shelf input out) (in_memory shelf_now left out_now) (Ok tt) → Whole stream input left out out_now
     by (prints other) ask does = subst (λ (t : Stream). Whole t input left out out_now) (one_stream words other stream ask asks) (whole_stream other input left out out_now does.0 does.1 does.2)
     by (loads load) ask does = absurd (stream_or_load words stream load asks ask)
+    by (queries query) ask does = absurd (stream_or_query words stream query asks ask)
+    by (checks check) ask does = absurd (stream_or_check words stream check asks ask)
 
 read_load : (load : Load) (shelf shelf_now : Storage) (input left : Given) (end : Result (Unit {0}) (Stop WriteError)) → Ok tt ≡ load_end end → Loads load (intake shelf (source_device input)) (intake shelf_now (source_device left)) end → left.left ≡ []
 read_load load shelf shelf_now input left (Ok u) e s = let none = (s.0.are_of input.left refl).1 in cc
 read_load load shelf shelf_now input left (Err (Input fault)) e s = cc
 read_load load shelf shelf_now input left (Err (Taker fault)) e s = cc
 
-pub read_all : (words : List (List ℕ)) (shelf shelf_now : Storage) (input left : Given) (out out_now : Taken) → Works words (in_memory shelf input out) (in_memory shelf_now left out_now) (Ok tt) → left.left ≡ []
-read_all words shelf shelf_now input left out out_now works = by works.command works.does
+pub read_all : (words : List (List ℕ)) (command : Command) (shelf shelf_now : Storage) (input left : Given) (out out_now : Taken) → AskFor words command → ReadsInput command → Works words (in_memory shelf input out) (in_memory shelf_now left out_now) (Ok tt) → left.left ≡ []
+read_all words command shelf shelf_now input left out out_now asks reads works = by works.command (subst ReadsInput (one_command words command works.command asks works.asked) reads) works.does
   where
-    by : (command : Command) → Does command (in_memory shelf input out) (in_memory shelf_now left out_now) (Ok tt) → left.left ≡ []
-    by (prints stream) does = (whole_stream stream input left out out_now does.0 does.1 does.2).at_end
-    by (loads load) does = read_load load shelf shelf_now input left does.0 does.1 does.2
+    by : (done_so : Command) → ReadsInput done_so → Does done_so (in_memory shelf input out) (in_memory shelf_now left out_now) (Ok tt) → left.left ≡ []
+    by (prints stream) reads does = (whole_stream stream input left out out_now does.0 does.1 does.2).at_end
+    by (loads load) reads does = read_load load shelf shelf_now input left does.0 does.1 does.2
+    by (queries query) reads does = absurd reads
+    by (checks check) reads does = absurd reads
 
 not_zero : (error : CommandError) → status_of error ≡ 0 → ⊥
 not_zero (error.BadWords bad) e = omega (arith, e)
@@ -126,6 +130,8 @@ stops words stream shelf shelf_now input left out out_now err err_now status ask
     by_command (prints other) ask does =
         subst (λ (t : Stream). StopsAt t input out out_now err err_now) (one_stream words other stream ask asks) (stopped other input left out out_now err err_now status does.0 three does.2 (ended (stream_end does.0) does.1))
     by_command (loads load) ask does = absurd (stream_or_load words stream load asks ask)
+    by_command (queries query) ask does = absurd (stream_or_query words stream query asks ask)
+    by_command (checks check) ask does = absurd (stream_or_check words stream check asks ask)
 
     by : Runs words (in_memory shelf input out) (in_memory shelf_now left out_now) a.done → StopsAt stream input out out_now err err_now
     by (inl works) = by_command works.command works.asked works.does

@@ -4,6 +4,8 @@ pub mod AskedCommands
 pub mod Completing
 -- what is gathered of documents, and written of it
 pub mod Gathering
+-- commands that write no file
+pub mod KeptFiles
 -- the top call over known bytes
 pub mod KnownBytes
 -- what is known of a load that words ask for

@@ -5,11 +5,11 @@ use Rattle.std.specs.Option.{option_map}
 use Rattle.std.proofs.lemmas.Bool.Decides.{nat_tests}
 use Rattle.byte_parsing.specs.Parse.{and_then}
 use Rattle.command_words.specs.Arguments.{Arguments, arguments_of}
-use Rattle.command_words.specs.Files.{only_file}
+use Rattle.command_words.specs.Files.{only_file, or_text}
 use Rattle.command_words.specs.Load.{LoadGiven, WritingGiven, page_range, group_range, writing_options, writing_given, load_given, load_words}
-use Rattle.command_words.specs.Numbers.{is_number, number_of, is_within, number_or_default, number_given}
+use Rattle.command_words.specs.Numbers.{is_number, number_of, is_within, number_within, number_or_default, number_given}
 use Rattle.command_words.specs.Options.{value_of, are_known}
-use Rattle.command_words.specs.Widths.{widths_given}
+use Rattle.command_words.specs.Widths.{WidthsGiven, widths_given}
 use Rattle.command_parsing.specs.Asking.{Asks}
 use Rattle.command_parsing.specs.Commands.{Load, IsLoad}
 use Rattle.schema_parsing.specs.Canonical.{HasText}

@@ -9,12 +9,14 @@ use Rattle.store_write.specs.declared.write_error.First.{First}
 use Rattle.store_write.specs.declared.write_error.First.TheVariants as first
 use Rattle.store_write.specs.declared.write_error.WriteError.{WriteError}
 use Rattle.store_write.specs.declared.write_error.WriteError.TheVariants as write
+use Rattle.file_answers.specs.declared.file_error.FileError.{FileError}
+use Rattle.file_answers.specs.declared.file_error.FileError.TheVariants as file
 use Rattle.variant_store.specs.declared.gatherer.OutputFault.{OutputFault}
 use Rattle.variant_store.specs.declared.gatherer.OutputFault.TheVariants as output
 use Rattle.command_parsing.specs.declared.fault.WordsFault.{WordsFault}
 use Rattle.command_parsing.specs.declared.fault.WordsFault.TheVariants as words
 use Rattle.variant_store.specs.declared.command_error.CommandError.{CommandError}
-use Rattle.variant_store.specs.declared.command_error.CommandError.TheVariants.{BadWords, BadLine, InputTooLong, FooterFull, ReadFault, WriteFault, NoMemory, Taken}
+use Rattle.variant_store.specs.declared.command_error.CommandError.TheVariants.{BadWords, BadLine, InputTooLong, FooterFull, BadFile, ReadFault, WriteFault, NoMemory, Absent, Taken}
 
 -- words that give no command
 abbrev pub words_error : WordsFault → CommandError
@@ -55,3 +57,12 @@ abbrev pub load_end : Result (Unit {0}) (Stop WriteError) → Result (Unit {0}) 
 load_end (Ok u) = Ok u
 load_end (Err (Input fault)) = Err (input_error fault)
 load_end (Err (Taker fault)) = Err (write_error fault)
+
+-- a command that reads one file: it is the first of the words' files
+abbrev pub file_end : Result (Unit {0}) FileError → Result (Unit {0}) CommandError
+file_end (Ok u) = Ok u
+file_end (Err file.Absent) = Err (Absent 1)
+file_end (Err (file.Violated violation)) = Err (BadFile 1 violation.rule violation.place)
+file_end (Err file.ReadFault) = Err ReadFault
+file_end (Err file.WriteFault) = Err WriteFault
+file_end (Err file.NoMemory) = Err NoMemory

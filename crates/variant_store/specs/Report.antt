@@ -6,8 +6,8 @@ use Rattle.exact_json.specs.Faults.{name_of}
 use Rattle.vs_bytes.specs.RuleNames as rules
 use Rattle.command_parsing.specs.declared.fault.BadWords.TheVariants.{Usage, BadSchema, BadFilter, BadOrder, BadPath, RepeatedPath}
 use Rattle.variant_store.specs.declared.command_error.CommandError.{CommandError}
-use Rattle.variant_store.specs.declared.place.Place.{Place}
-use Rattle.variant_store.specs.declared.place.Place.TheVariants as place
+use Rattle.store_file.specs.declared.file_faults.Place.{Place}
+use Rattle.store_file.specs.declared.file_faults.Place.TheVariants as place
 use Rattle.variant_store.specs.declared.command_error.CommandError.TheVariants.{BadWords, BadLine, InputTooLong, FooterFull, BadFile, ReadFault, WriteFault, NoMemory, Absent, Taken}
 
 abbrev pub status_of : CommandError → ℕ

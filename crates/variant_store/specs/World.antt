@@ -2,6 +2,7 @@
 use Rattle.outside.specs.Devices.{Device, IsCalm}
 use Rattle.shelf.specs.Storage.{Storage}
 use Rattle.document_loading.specs.Loading.{Intake, intake}
+use Rattle.file_answers.specs.Beginning.{Readout, readout}
 
 pub record World : Type 0 where
   pub shelf : Storage
@@ -29,3 +30,7 @@ AreCalm before after = IsCalm before.input after.input × IsCalm before.out afte
 -- what a command is handed that reads the input and writes a file
 abbrev pub intake_in : World → Intake
 intake_in world = intake world.shelf world.input
+
+-- what a command is handed that reads a file and prints
+abbrev pub readout_in : World → Readout
+readout_in world = readout world.shelf world.out

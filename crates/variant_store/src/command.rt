@@ -5,7 +5,8 @@ ghost use Rattle.command_parsing.specs.Asking.{Reads};
 ghost use Rattle.variant_store.specs.Commands.{AskFor, AskWrongly, command_of, named};
 
 use command_parsing::{
-    BadWords, LoadCommand, WidthWords, WordsFault, asked_load, asked_scan, asked_variant,
+    BadWords, CheckCommand, LoadCommand, QueryCommand, WidthWords, WordsFault, asked_check,
+    asked_load, asked_query, asked_scan, asked_variant,
 };
 use path_query::Query;
 use std::alloc::Global;
@@ -17,6 +18,8 @@ pub enum Name {
     Scan,
     Variant,
     Load,
+    Query,
+    Check,
 }
 
 /// What a call is asked to do.
@@ -28,6 +31,10 @@ pub enum Command {
     Variant(WidthWords),
     /// To write the documents of the input to a new file.
     Load(LoadCommand),
+    /// To print a query's lines over the rows of a file's column.
+    Query(QueryCommand),
+    /// To tell whether a file violates a rule.
+    Check(CheckCommand),
 }
 
 /// The command that a word names.
@@ -40,6 +47,10 @@ fn named(word: &[u8]) -> Option<Name>
         Some(Name::Variant)
     } else if word == b"load".as_slice() {
         Some(Name::Load)
+    } else if word == b"query".as_slice() {
+        Some(Name::Query)
+    } else if word == b"check".as_slice() {
+        Some(Name::Check)
     } else {
         None
     }
@@ -63,6 +74,14 @@ pub fn asked_command(alloc: Global, words: &[Text]) -> Result<Command, WordsFaul
         },
         Some(Name::Load) => match asked_load(alloc, others) {
             Ok(load) => Ok(Command::Load(load)),
+            Err(fault) => Err(fault),
+        },
+        Some(Name::Query) => match asked_query(alloc, others) {
+            Ok(query) => Ok(Command::Query(query)),
+            Err(fault) => Err(fault),
+        },
+        Some(Name::Check) => match asked_check(alloc, others) {
+            Ok(check) => Ok(Command::Check(check)),
             Err(fault) => Err(fault),
         },
         None => Err(WordsFault::Wrong(BadWords::Usage)),

@@ -1,15 +1,17 @@
 //! Why a call ends with another status than 0, and the line that says so.
 
 ghost use Rattle.std.specs.Prelude.{◌≡◌, IfOk, string_bytes};
-ghost use Rattle.variant_store.specs.Ends.{words_error, input_error, output_error, stream_end, first_error, write_error, load_end};
+ghost use Rattle.variant_store.specs.Ends.{words_error, input_error, output_error, stream_end, first_error, write_error, load_end, file_end};
 ghost use Rattle.variant_store.specs.Report.{status_of, message_of, IsReported};
 
 use crate::gatherer::OutputFault;
-use crate::place::Place;
+use crate::place::place_text;
 use command_parsing::{BadWords, WordsFault};
+use file_answers::FileError;
 use json_documents::{DocFault, InputFault, Stop};
 use outside::{Sink, SinkError, write_all};
 use std::alloc::{AllocError, Global};
+use store_file::Place;
 use store_write::{First, WriteError};
 use vs_bytes::Rule;
 
@@ -116,6 +118,24 @@ pub fn load_end(done: Result<(), Stop<WriteError>>) -> Result<(), CommandError>
     }
 }
 
+/// How a call ends that reads one file.
+pub fn file_end(done: Result<(), FileError>) -> Result<(), CommandError>
+    ensures { result ≡ file_end done }
+{
+    match done {
+        Ok(()) => Ok(()),
+        Err(FileError::Absent) => Err(CommandError::Absent { file: 1 }),
+        Err(FileError::Violated(violation)) => Err(CommandError::BadFile {
+            file: 1,
+            rule: violation.rule,
+            place: violation.place,
+        }),
+        Err(FileError::ReadFault) => Err(CommandError::ReadFault),
+        Err(FileError::WriteFault) => Err(CommandError::WriteFault),
+        Err(FileError::NoMemory) => Err(CommandError::NoMemory),
+    }
+}
+
 /// The line for words that ask for nothing.
 fn bad_words_message(alloc: Global, fault: BadWords) -> Result<String, AllocError>
     ensures { IfOk result (λ message. string_bytes message ≡ message_of (CommandError.BadWords fault)) }
@@ -151,7 +171,7 @@ fn bad_file_message(
 {
     let mut message = format!(in alloc; "vstore: file {file}: ")?;
     message.push_str(rule.name())?;
-    message.push_str(place.text(alloc)?.as_str())?;
+    message.push_str(place_text(alloc, place)?.as_str())?;
     message.push_str("\n")?;
     Ok(message)
 }

@@ -7,7 +7,7 @@ ghost use Rattle.shelf.specs.Memory.{mem_storage};
 ghost use Rattle.json_tree.specs.Json.{Json};
 ghost use Rattle.json_documents.specs.Documents.{at_end, HasDocuments};
 ghost use Rattle.json_documents.specs.Input.{IsWithinLimit};
-ghost use Rattle.variant_store.specs.Commands.{prints, AskFor};
+ghost use Rattle.variant_store.specs.Commands.{Command, prints, AskFor, ReadsInput};
 ghost use Rattle.variant_store.specs.Stream.{Stream};
 ghost use Rattle.variant_store.specs.World.{world_of};
 ghost use Rattle.variant_store.specs.Top.{IsAnswer};
@@ -29,7 +29,7 @@ pub fn vstore_in_memory(
 ) -> u8
     ensures answer { IsAnswer words.now (world_of (mem_storage shelf.old) (source_device input.old) (sink_device out.old)) (world_of (mem_storage shelf.new) (source_device input.new) (sink_device out.new)) (sink_device err.old) (sink_device err.new) result }
     ensures prints { (stream : Stream) → AskFor words.now (prints stream) → result ≡ 0 → Prints stream input.old at_end out.old out.new }
-    ensures read_whole { result ≡ 0 → input.new.left ≡ [] }
+    ensures read_whole { (command : Command) → AskFor words.now command → ReadsInput command → result ≡ 0 → input.new.left ≡ [] }
     ensures quiet { result ≡ 0 → err.new.written ≡ err.old.written }
     ensures bounded { IsWithinLimit input.old.left (Some input.new.left) }
     ensures refused { (stream : Stream) → AskFor words.now (prints stream) → result ≡ 3 → (StopsAtLine stream input.old out.old out.new err.old err.new ⊎ StopsAtLimit stream input.old out.old out.new err.old err.new) }

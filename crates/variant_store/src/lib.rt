@@ -11,7 +11,7 @@
 //! | `variant_printer` | for `variant`: the bytes of a Variant in hex |
 //! | `gatherer` | `Gatherer`: what is printed, gathered document by document |
 //! | `stream` | what is printed of all documents of an input |
-//! | `place` | `Place`: where in a file a rule is violated |
+//! | `place` | `place_text`: where in a file a rule is violated, as it is told |
 //! | `command_error` | `CommandError`: why a call ends with another status than 0, with its line |
 #![tactic(auto)]
 

@@ -1,22 +1,12 @@
-//! Where in a file a rule is violated.
+//! What the line of an error says of where in a file a rule is violated.
 
 ghost use Rattle.std.specs.Prelude.{◌≡◌, IfOk, string_bytes};
 ghost use Rattle.variant_store.specs.Report.{place_text};
 
 use std::alloc::{AllocError, Global};
+use store_file::Place;
 
-/// Where in a file a rule is violated. Groups, leaves of the column and rows of a group are counted from 0.
-#[derive(Clone, Copy, PartialEq, Eq, Debug, Drop)]
-pub enum Place {
-    /// In what opening reads, or in the column's schema.
-    File,
-    /// In the column chunk of a group's leaf.
-    Chunk(u32, u32),
-    /// In a row of a group.
-    Row(u32, u64),
-}
-
-fn chunk_text(alloc: Global, group: u32, leaf: u32) -> Result<String, AllocError>
+fn chunk_text(alloc: Global, group: usize, leaf: usize) -> Result<String, AllocError>
     ensures { IfOk result (λ text. string_bytes text ≡ place_text (Place.Chunk group leaf)) }
 {
     let mut text = format!(in alloc; " group {group}")?;
@@ -25,7 +15,7 @@ fn chunk_text(alloc: Global, group: u32, leaf: u32) -> Result<String, AllocError
     Ok(text)
 }
 
-fn row_text(alloc: Global, group: u32, row: u64) -> Result<String, AllocError>
+fn row_text(alloc: Global, group: usize, row: u64) -> Result<String, AllocError>
     ensures { IfOk result (λ text. string_bytes text ≡ place_text (Place.Row group row)) }
 {
     let mut text = format!(in alloc; " group {group}")?;
@@ -34,15 +24,13 @@ fn row_text(alloc: Global, group: u32, row: u64) -> Result<String, AllocError>
     Ok(text)
 }
 
-impl Place {
-    /// What the line of an error says of the place.
-    pub fn text(self, alloc: Global) -> Result<String, AllocError>
-        ensures { IfOk result (λ text. string_bytes text ≡ place_text self) }
-    {
-        match self {
-            Place::File => Ok(String::new(alloc)),
-            Place::Chunk(group, leaf) => chunk_text(alloc, group, leaf),
-            Place::Row(group, row) => row_text(alloc, group, row),
-        }
+/// The text of a place.
+pub fn place_text(alloc: Global, place: Place) -> Result<String, AllocError>
+    ensures { IfOk result (λ text. string_bytes text ≡ place_text place) }
+{
+    match place {
+        Place::File => Ok(String::new(alloc)),
+        Place::Chunk(group, leaf) => chunk_text(alloc, group, leaf),
+        Place::Row(group, row) => row_text(alloc, group, row),
     }
 }

@@ -12,7 +12,7 @@ returns-clause-prints c = λ stream asks zero_is.
     (whole c.args.words.now stream (mem_storage c.args.shelf.now) (mem_storage c.vstore.new.shelf) c.args.input.now c.vstore.new.input c.args.out.now c.vstore.new.out asks (c.vstore.ensures.zero zero_is)).has_printed
 
 pub returns-clause-read_whole : goal.returns-clause-read_whole
-returns-clause-read_whole c = λ zero_is. read_all c.args.words.now (mem_storage c.args.shelf.now) (mem_storage c.vstore.new.shelf) c.args.input.now c.vstore.new.input c.args.out.now c.vstore.new.out (c.vstore.ensures.zero zero_is)
+returns-clause-read_whole c = λ command asks reads zero_is. read_all c.args.words.now command (mem_storage c.args.shelf.now) (mem_storage c.vstore.new.shelf) c.args.input.now c.vstore.new.input c.args.out.now c.vstore.new.out asks reads (c.vstore.ensures.zero zero_is)
 
 pub returns-clause-quiet : goal.returns-clause-quiet
 returns-clause-quiet c = λ zero_is.

@@ -11,3 +11,6 @@ load-requires g c = record {
   schema = load_has_text c.args.words.now (load_of c.in-Ok-Load.asked) (rw c.in-Ok-Load.field-0-is at c.in-Ok-Load.ensures);
   pages = load_has_pages c.args.words.now (load_of c.in-Ok-Load.asked) (rw c.in-Ok-Load.field-0-is at c.in-Ok-Load.ensures);
 }
+
+pub returns-in-Ok-Query-clause-bounded : goal.returns-in-Ok-Query-clause-bounded
+returns-in-Ok-Query-clause-bounded g c = λ input e. nothing_read input _ e
