@@ -18,7 +18,8 @@ use outside::{MemSink, MemSource};
 use shelf::MemShelf;
 use std::alloc::Global;
 
-/// [`vstore`] over objects in memory: what its `answer` says of known bytes, said in bytes.
+/// [`vstore`] over objects in memory: what its `answer` says of known bytes, said in bytes for the commands that print
+/// something of each document (`scan`, `variant`).
 pub fn vstore_in_memory(
     alloc: Global,
     words: &[Word],

@@ -14,3 +14,6 @@ load-requires g c = record {
 
 pub returns-in-Ok-Query-clause-bounded : goal.returns-in-Ok-Query-clause-bounded
 returns-in-Ok-Query-clause-bounded g c = λ input e. nothing_read input _ e
+
+pub returns-in-Ok-Check-clause-bounded : goal.returns-in-Ok-Check-clause-bounded
+returns-in-Ok-Check-clause-bounded g c = λ input e. nothing_read input _ e

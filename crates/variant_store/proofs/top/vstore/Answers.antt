@@ -7,3 +7,6 @@ returns-in-Err-clause-complete g c = completes _ _ _ _ _ _ _ c.in-Err.ensures.ru
 
 pub returns-in-Err-clause-kept : goal.returns-in-Err-clause-kept
 returns-in-Err-clause-kept g c = keeps_files _ _ _ _ c.in-Err.ensures.runs
+
+pub returns-in-Ok-clause-kept : goal.returns-in-Ok-clause-kept
+returns-in-Ok-clause-kept g c = keeps_files _ _ _ _ c.in-Ok.ensures.runs
