@@ -69,14 +69,24 @@ impl Sink for FullSink {
     }
 }
 
-/// Calls the program on an output that has no memory: the status, and what the error output holds.
-pub fn call_full(alloc: Global, words: &[Word], input: &[u8]) -> Result<(u8, MemSink), NoMemory> {
+/// Calls the program on a shelf, with an output that has no memory: the status, and what the error output holds.
+pub fn call_full_on(
+    alloc: Global,
+    words: &[Word],
+    shelf: &mut MemShelf,
+    input: &[u8],
+) -> Result<(u8, MemSink), NoMemory> {
     let mut source = MemSource::new(Vec::from_slice(alloc, input)?, 64, Vec::new(alloc));
     let mut out = FullSink;
     let mut err = MemSink::new(alloc, Vec::new(alloc));
-    let mut shelf = MemShelf::new(alloc, Vec::new(alloc));
-    let status = vstore(alloc, words, &mut shelf, &mut source, &mut out, &mut err);
+    let status = vstore(alloc, words, shelf, &mut source, &mut out, &mut err);
     Ok((status, err))
+}
+
+/// Calls the program where there are no files, with an output that has no memory.
+pub fn call_full(alloc: Global, words: &[Word], input: &[u8]) -> Result<(u8, MemSink), NoMemory> {
+    let mut shelf = MemShelf::new(alloc, Vec::new(alloc));
+    call_full_on(alloc, words, &mut shelf, input)
 }
 
 /// Calls the program, its input in pieces of at most so many bytes.
