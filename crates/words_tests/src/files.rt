@@ -106,7 +106,11 @@ f --offset-width 4 --id-width=3 | f by variant, 4 and 3, 1048576 and 10000
 f --id-width 0000000004 | f by variant, 1 and 4, 1048576 and 10000
 f --page-bytes 1024 --group-rows 1 | f by variant, 1 and 1, 1024 and 1
 f --page-bytes 16777216 --group-rows 100000 | f by variant, 1 and 1, 16777216 and 100000
-f --page-bytes 0000001024 --group-rows 01 | f by variant, 1 and 1, 1024 and 1";
+f --page-bytes 0000001024 --group-rows 01 | f by variant, 1 and 1, 1024 and 1
+--group-rows=2 --page-bytes=2048 --id-width=3 --offset-width=2 --schema=int8 f | f by int8, 2 and 3, 2048 and 2
+--schema int8 -- --schema | --schema by int8, 1 and 1, 1048576 and 10000
+f --schema - | f by -, 1 and 1, 1048576 and 10000
+-- - | - by variant, 1 and 1, 1048576 and 10000";
 
 #[test]
 fn a_load_writes_one_file_by_its_options(rt: HostRuntime) -> Result<(), Fail> {
@@ -140,7 +144,40 @@ f --group-rows 1e1 | usage
 f --group-rows ١ | usage
 f --group-rows= | usage
 f --group-rows  | usage
-f --group-rows 1 --group-rows=1 | usage";
+f --group-rows 1 --group-rows=1 | usage
+f --offset-width=1 --offset-width=1 | usage
+f --id-width 1 --offset-width 1 --id-width 1 | usage
+--page-bytes 1024 f --page-bytes 2048 | usage
+f --schema= --schema= | usage
+f --offset-width | usage
+f --id-width | usage
+f --page-bytes | usage
+f --group-rows | usage
+--group-rows f | usage
+f --page-bytes --group-rows 1 | usage
+f --page-bytes --group-rows=1 1024 | usage
+f --schema -- | usage
+f --page-bytes 0 | usage
+f --page-bytes -1024 | usage
+f --page-bytes= | usage
+f --page-bytes 1k | usage
+f --page-bytes 0x400 | usage
+f --page-bytes 18446744073709552640 | usage
+f --group-rows 00000000001 | usage
+f --group-rows -1 | usage
+f --group-rows 1. | usage
+f --group-row 1 | usage
+f --group-rowss 1 | usage
+f --group_rows 1 | usage
+f --Schema int8 | usage
+f --schemas=int8 | usage
+f --help | usage
+f --version | usage
+f -h | usage
+f -schema int8 | usage
+f --=int8 | usage
+-- | usage
+ f | usage";
 
 #[test]
 fn words_that_are_no_load_are_usage(rt: HostRuntime) -> Result<(), Fail> {
@@ -168,7 +205,25 @@ f $ --column v --column v | usage
 f $ --where x --where y | usage
 f $ --column -v | usage
 f $ -x | usage
-f $ --schema int8 | usage";
+f $ --schema int8 | usage
+f --column - $ | - of f $
+f --column=a=b $ | a=b of f $
+f --column ó😀 $ | ó😀 of f $
+f --column .doc* $ | .doc* of f $
+f --column  $ |  of f $
+-- --column --where | doc of --column --where
+f --where $ --column v -- $ | v of f where $ $
+--column v | usage
+--column v --where x f | usage
+-- f | usage
+f $ --column=v --column= | usage
+f $ --where | usage
+f $ --column --where x | usage
+f $ --column -- | usage
+f $ --columns v | usage
+f $ --Where x | usage
+f $ --group-rows 1 | usage
+f $ --help | usage";
 
 #[test]
 fn a_query_asks_one_file_for_its_paths(rt: HostRuntime) -> Result<(), Fail> {
@@ -208,7 +263,19 @@ f g | usage
 f --column | usage
 f --column v --column v | usage
 f --where $ | usage
-f $ | usage";
+f $ | usage
+-- -x | doc of -x
+- --column=- | - of -
+--column=ó😀 f | ó😀 of f
+f --column= |  of f
+ | doc of 
+f --column=v --column v | usage
+f -- g | usage
+f -x | usage
+f --columns v | usage
+f --column -- | usage
+f --group-rows 1 | usage
+-- | usage";
 
 #[test]
 fn a_check_reads_one_file(rt: HostRuntime) -> Result<(), Fail> {
