@@ -8,7 +8,6 @@
 //! | `limits` | the depth of a line, its length, output of many pieces |
 //! | `variants` | the bytes of documents as Variants |
 //! | `loads` | documents loaded to a file |
-//! | `queries` | files that were loaded, queried and checked |
 //! | `devices` | each read and each write failing in turn, sources and sinks in pieces, a sink without memory |
 #![tactic(auto)]
 
@@ -18,8 +17,6 @@ mod devices;
 mod limits;
 #[cfg(test)]
 mod loads;
-#[cfg(test)]
-mod queries;
 #[cfg(test)]
 mod rows;
 #[cfg(test)]

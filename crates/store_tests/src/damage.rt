@@ -1,0 +1,192 @@
+//! Files that were cut, changed at random, or made of random bytes: a query and a check of each end with an answer or a
+//! rule, and a check refuses what a query does.
+
+use crate::calls::{called, file_of, lines_of, loaded, outcome_text, shelf_of, without_footer};
+use crate::draws::Draws;
+use std::alloc::Global;
+use std::test::Fail;
+use test_rows::{Wrong, hex_text, split_row};
+use test_runs::Outcome;
+use vs_bytes::NoMemory;
+
+// Files: the options of a load, and its documents.
+const FILES: &str = r#"--group-rows=2 | {"a":1,"z":2}¶[1,"x",null]¶7
+--schema={a:int64,s:string} --group-rows=2 | {"a":1,"s":"é","z":2}¶{"a":"x"}¶{"s":"abcdefgh"}¶{}¶[1]
+--schema={t:[{k:int64,v:boolean}]} | {"t":[{"k":1,"v":true},{},{"v":false,"w":3}]}¶{"t":[]}¶{"t":7}¶{}
+--schema={n:decimal(9,2),m:decimal(38,0),o:[[int8]]} --group-rows=3 | {"n":1.25,"m":5,"o":[[1,2],[],[3]]}¶{"n":100,"m":0.5}¶{"o":[1,[2]]}¶{"m":-7}"#;
+
+// The bytes of the file of a row.
+fn file_with(alloc: Global, row: &str) -> Result<Vec<u8>, Wrong> {
+    let (options, input) = split_row(alloc, row)?;
+    let load = format!(in alloc; "load f {options}")?;
+    let load = loaded(alloc, load.as_str(), lines_of(alloc, input)?.as_bytes())?;
+    Ok(file_of(alloc, &load.shelf)?)
+}
+
+// Whether bytes are whole lines.
+fn are_lines(bytes: &[u8]) -> bool {
+    bytes.is_empty() || bytes.ends_with(b"\n")
+}
+
+// Whether a call ended with an answer, or with a rule of the file.
+fn is_answer_or_rule(run: &Outcome) -> bool {
+    let err = run.err.bytes();
+    let told = match run.status {
+        0 => err.is_empty(),
+        4 => err.starts_with(b"vstore: file 1: ") && err.ends_with(b"\n"),
+        _ => false,
+    };
+    told && are_lines(run.out.bytes())
+}
+
+// A query and a check of a file, and whether both ended as they may: the check refuses it where the query does.
+fn judged(alloc: Global, query: &Outcome, check: &Outcome, file: &[u8]) -> Result<bool, Wrong> {
+    let agree = query.status <= check.status;
+    if agree && is_answer_or_rule(query) && is_answer_or_rule(check) {
+        return Ok(check.status == 4);
+    }
+    let bytes = hex_text(alloc, file)?;
+    let query = outcome_text(alloc, query)?;
+    let check = outcome_text(alloc, check)?;
+    Err(Wrong::Row(format!(in alloc; "{bytes}: {query}, {check}")?))
+}
+
+// Whether a check refuses a file.
+fn is_refused(alloc: Global, file: &[u8]) -> Result<bool, Wrong> {
+    let query = called(alloc, "query f $", shelf_of(alloc, file, &[])?, b"")?;
+    let check = called(alloc, "check f", shelf_of(alloc, file, &[])?, b"")?;
+    judged(alloc, &query, &check, file)
+}
+
+// Checks that a file is refused wherever it is cut, and not where it is whole.
+fn check_cuts(alloc: Global, file: &[u8]) -> Result<(), Wrong> {
+    for len in 0..file.len() {
+        if !is_refused(alloc, &file[..len])? {
+            return Err(Wrong::Row(format!(in alloc; "the first {len} bytes")?));
+        }
+    }
+    if is_refused(alloc, file)? {
+        return Err(Wrong::Row("the whole file".to_string(alloc)?));
+    }
+    Ok(())
+}
+
+#[test]
+fn a_file_that_is_cut_is_refused(rt: HostRuntime) -> Result<(), Fail> {
+    let alloc = rt.alloc();
+    for row in FILES.split('\n') {
+        check_cuts(alloc, file_with(alloc, row)?.as_slice())?;
+    }
+    Ok(())
+}
+
+// A copy of a file in which so many bytes from a place on are changed.
+fn altered(
+    alloc: Global,
+    file: &[u8],
+    from: usize,
+    changes: u32,
+    draws: &mut Draws,
+) -> Result<Vec<u8>, NoMemory> {
+    let mut bytes = Vec::from_slice(alloc, file)?;
+    for _change in 0..changes {
+        let place = draws.below(file.len().saturating_sub(from));
+        let change = draws.change();
+        if let Some(byte) = bytes.get_mut(from.saturating_add(place)) {
+            *byte = *byte ^ change;
+        }
+    }
+    Ok(bytes)
+}
+
+// How many are refused of so many copies of a file that are changed so.
+fn refused_count(
+    alloc: Global,
+    file: &[u8],
+    from: usize,
+    changes: u32,
+    copies: u32,
+    draws: &mut Draws,
+) -> Result<u32, Wrong> {
+    let mut refused = 0u32;
+    for _copy in 0..copies {
+        let bytes = altered(alloc, file, from, changes, draws)?;
+        if is_refused(alloc, bytes.as_slice())? {
+            refused = refused.saturating_add(1);
+        }
+    }
+    Ok(refused)
+}
+
+// Some of 1,000 copies of each file with one other byte are refused, and some aren't: a test that met only one kind
+// would show little.
+#[test]
+fn a_file_with_another_byte_has_an_answer_or_a_rule(rt: HostRuntime) -> Result<(), Fail> {
+    let alloc = rt.alloc();
+    let mut draws = Draws::new(20_240_501);
+    for row in FILES.split('\n') {
+        let file = file_with(alloc, row)?;
+        let refused = refused_count(alloc, file.as_slice(), 0, 1, 1_000, &mut draws)?;
+        assert!(&rt; 100 < refused && refused < 900, "{refused} of {row}");
+    }
+    Ok(())
+}
+
+#[test]
+fn a_file_with_other_bytes_in_its_footer_has_an_answer_or_a_rule(
+    rt: HostRuntime,
+) -> Result<(), Fail> {
+    let alloc = rt.alloc();
+    let mut draws = Draws::new(7);
+    for row in FILES.split('\n') {
+        let file = file_with(alloc, row)?;
+        let footer = without_footer(file.as_slice()).len();
+        let refused = refused_count(alloc, file.as_slice(), footer, 2, 500, &mut draws)?;
+        assert!(&rt; 100 < refused, "{refused} of {row}");
+    }
+    Ok(())
+}
+
+// So many random bytes.
+fn random_bytes(alloc: Global, count: usize, draws: &mut Draws) -> Result<Vec<u8>, NoMemory> {
+    let mut bytes = Vec::new(alloc);
+    for _byte in 0..count {
+        bytes.push(draws.byte())?;
+    }
+    Ok(bytes)
+}
+
+// Random bytes between both magic numbers, of which some are the footer.
+fn random_file(alloc: Global, draws: &mut Draws) -> Result<Vec<u8>, NoMemory> {
+    let count = draws.below(300);
+    let footer = draws.below(count.saturating_add(1)) as u32;
+    let inner = random_bytes(alloc, count, draws)?;
+    let mut bytes = Vec::from_slice(alloc, b"PAR1")?;
+    bytes.extend_from_slice(inner.as_slice())?;
+    bytes.extend_from_slice(&footer.to_le_bytes())?;
+    bytes.extend_from_slice(b"PAR1")?;
+    Ok(bytes)
+}
+
+#[test]
+fn random_bytes_are_refused(rt: HostRuntime) -> Result<(), Fail> {
+    let alloc = rt.alloc();
+    let mut draws = Draws::new(94);
+    for _file in 0..1_000 {
+        let count = draws.below(300);
+        let bytes = random_bytes(alloc, count, &mut draws)?;
+        assert!(&rt; is_refused(alloc, bytes.as_slice())?);
+    }
+    Ok(())
+}
+
+#[test]
+fn random_bytes_between_magic_numbers_are_refused(rt: HostRuntime) -> Result<(), Fail> {
+    let alloc = rt.alloc();
+    let mut draws = Draws::new(82);
+    for _file in 0..1_000 {
+        let bytes = random_file(alloc, &mut draws)?;
+        assert!(&rt; is_refused(alloc, bytes.as_slice())?);
+    }
+    Ok(())
+}
