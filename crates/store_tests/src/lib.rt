@@ -13,6 +13,7 @@
 //! | `changes` | files with a changed byte, and a file of another writer |
 //! | `damage` | files that were cut, changed at random, or made of random bytes |
 //! | `devices` | each call of the shelf, the input and the output failing in turn, and an output without memory |
+//! | `footers` | footers that would be too long |
 #![tactic(auto)]
 
 #[cfg(test)]
@@ -25,6 +26,8 @@ mod damage;
 mod devices;
 #[cfg(test)]
 mod draws;
+#[cfg(test)]
+mod footers;
 #[cfg(test)]
 mod groups;
 #[cfg(test)]
