@@ -1,47 +1,58 @@
 #!/usr/bin/env bash
-# Runs three queries on the example data, and shows each command with what it prints. The proved program
-# runs them where it is built; else its sources do, unproved, which takes about a minute.
+# Queries the example data, loads it into a Parquet file, queries that and checks it, and shows each command with
+# what it prints. The file lies in a temporary folder. The proved program runs them where it is built; else its
+# sources do, unproved.
 #
 # usage: examples/demo.sh PROGRAM
 set -euo pipefail
 program=$(realpath -m "$1")
 cd "$(dirname "$0")"
-cases=$(mktemp -d)
-trap 'rm -rf "$cases" "$cases.err"' EXIT
+work=$(mktemp -d)
+trap 'rm -rf "$work"' EXIT
+mkdir "$work/cases"
+file=$work/events.parquet
 
-# keeps a query as a case: its input, its words, one a line, and the command as one types it
+# keeps a call as a case: its input, its words, one a line, and the command as one types it
 commands=()
-query() {
-    local word command="vstore scan"
+call() {
+    local input=$1 word command=vstore case=$work/cases/${#commands[@]}
+    shift
     for word in "$@"; do
         case $word in
-            --*) command+=" $word" ;;
+            "$file") command+=" events.parquet" ;;
+            scan | load | query | check | --*) command+=" $word" ;;
             *) command+=" '$word'" ;;
         esac
     done
-    cp events.jsonl "$cases/${#commands[@]}"
-    printf '%s\n' scan "$@" > "$cases/${#commands[@]}.args"
-    commands+=("$command < examples/events.jsonl")
+    if [ "$input" ]; then
+        command+=" < examples/$input"
+    fi
+    cat "${input:-/dev/null}" > "$case"
+    printf '%s\n' "$@" > "$case.args"
+    commands+=("$command")
 }
 
-query '$.device' '$.reading'
-query --where '$.reading > 21 and $.tags[*] = "eu"' '$.device' '$.user.visits'
-query --where '$.alarm exists' '$.device' '$.alarm' '$.tags[*]'
+call events.jsonl scan '$.device' '$.reading'
+call events.jsonl load "$file" --schema '{device:int32,reading:decimal(9,2),user:{name:string,visits:int64},tags:[string]}'
+call '' query "$file" --where '$.reading > 21 and $.tags[*] = "eu"' '$.device' '$.user.visits'
+call '' query "$file" --where '$.reading >= ""' '$.device' '$.reading'
+call '' query "$file" --where '$.alarm exists' '$.device' '$.alarm' '$.tags[*]'
+call '' check "$file"
 
 # prints what each case prints, below a line '== CASE'
 run_proved() {
     local case words
     for case in "${!commands[@]}"; do
-        mapfile -t words < "$cases/$case.args"
+        mapfile -t words < "$work/cases/$case.args"
         echo "== $case"
-        "$program" "${words[@]}" < "$cases/$case"
+        "$program" "${words[@]}" < "$work/cases/$case"
     done
 }
 
 # the same, by sources that are built in one go and not proved; what rt says beside it is shown where it fails
 run_unproved() {
-    (cd ../crates/vstore && rt try --cases "$cases") 2> "$cases.err" || {
-        cat "$cases.err" >&2
+    (cd ../crates/vstore && rt try --cases "$work/cases") 2> "$work/err" || {
+        cat "$work/err" >&2
         return 1
     }
 }
@@ -50,7 +61,7 @@ if [ -x "$program" ]; then
     echo "# by the proved program, $(realpath --relative-to=.. "$program")"
     run=run_proved
 else
-    echo "# unproved, by 'rt try', since the program isn't built: about a minute ('make build' proves and builds it)"
+    echo "# unproved, by 'rt try', since the program isn't built: a minute or more ('make build' proves and builds it)"
     run=run_unproved
 fi
 "$run" | while IFS= read -r line; do
