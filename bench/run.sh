@@ -1,6 +1,7 @@
 #!/usr/bin/env bash
-# Times `vstore scan` on generated JSON lines, beside jq where it is installed, and `vstore variant`, and counts
-# instructions per byte where valgrind is. Prints a table in Markdown.
+# Times `vstore scan` on generated JSON lines, beside jq where it is installed, `vstore variant`, and `vstore load`,
+# `query` and `check` beside sqlite3 where it is installed, and counts instructions per byte where valgrind is. Prints
+# tables in Markdown.
 #
 # usage: bench/run.sh PROGRAM [MEGABYTES..]
 #
@@ -19,10 +20,16 @@ sizes=${*:-10 100}
 work=$(mktemp -d)
 trap 'rm -rf "$work"' EXIT
 
-# the least wall time in seconds of five runs, and the peak memory in KB
+# schemas that fit the documents of a shape
+counts() { python3 -c "print(','.join(f'c{k:02}:' + ('string' if k % $1 else 'int64') for k in range(24)))"; }
+records_schema='{id:int64,ts:string,user:{name:string,age:int8},amount:decimal(9,2),tags:[string]}'
+kilo_schema="{id:int64,ts:string,site:string,room:string,rack:string,owner:string,model:string,note:string,$(counts 1),places:[{x:decimal(9,2),y:decimal(9,2),at:string}],tags:[string],values:[int16],ok:boolean,alarm:variant}"
+
+# the least wall time in seconds of five runs, and the peak memory in KB. A run may write the file `new`
 timed() {
     local least="" memory="" run
     for run in 1 2 3 4 5; do
+        rm -f "$work/new"
         /usr/bin/time -f '%e %M' -o "$work/time" "$@" > "$work/out" < "$work/in"
         read -r wall peak < "$work/time"
         least=$(python3 -c "print(min($wall, ${least:-$wall}))")
@@ -75,6 +82,67 @@ for shape in numbers records; do
     done
 done
 
+# documents into a file, and a query over it, beside sqlite3: a table of texts, plain or of valid JSON alone
+has_sqlite() { command -v sqlite3 > /dev/null; }
+imported() { echo "pragma journal_mode = off; pragma synchronous = off; create table docs (doc text$1)"; }
+import_words=('.mode ascii' '.separator "\037" "\n"' '.import /dev/stdin docs')
+valid=' check (json_valid(doc))'
+
+echo
+echo "| input | schema | MB | load s | MB/s | peak MB | file MB | sqlite3 s | with json_valid s | ratio |"
+echo "|---|---|---|---|---|---|---|---|---|---|"
+load_row() {
+    local shape=$1 named=$2 schema=$3 size ours memory file plain=0 judged=0
+    for size in $sizes; do
+        python3 "$here/generate.py" "$shape" $((size * 1000000)) > "$work/in"
+        read -r ours memory < <(timed "$program" load "$work/new" --schema "$schema")
+        file=$(stat -c %s "$work/new")
+        if has_sqlite; then
+            read -r plain _ < <(timed sqlite3 "$work/new" "$(imported "")" "${import_words[@]}")
+            read -r judged _ < <(timed sqlite3 "$work/new" "$(imported "$valid")" "${import_words[@]}")
+        fi
+        python3 -c "print(f'| $shape | $named | $size | {$ours:.2f} | {$size / max($ours, 0.01):.0f} | {$memory / 1000:.1f} | {$file / 1e6:.1f} | {$plain:.2f} | {$judged:.2f} | {$ours / max($judged, 0.01):.2f} |')"
+    done
+}
+load_row records variant variant
+load_row records "all fits" "$records_schema"
+load_row kilo variant variant
+load_row kilo "all fits" "$kilo_schema"
+
+echo
+echo "| input | words | schema | MB | query s | peak MB | scan s | sqlite3 s | beside scan | beside sqlite3 |"
+echo "|---|---|---|---|---|---|---|---|---|---|"
+# one row: the shape, the schema's name, the schema, what sqlite3 selects, the words of a query
+query_row() {
+    local shape=$1 named=$2 schema=$3 selected=$4 size ours memory lines theirs=0
+    shift 4
+    for size in $sizes; do
+        python3 "$here/generate.py" "$shape" $((size * 1000000)) > "$work/in"
+        rm -f "$work/file" "$work/db"
+        "$program" load "$work/file" --schema "$schema" < "$work/in"
+        read -r ours memory < <(timed "$program" query "$work/file" "$@")
+        read -r lines _ < <(timed "$program" scan "$@")
+        if has_sqlite; then
+            sqlite3 "$work/db" "$(imported "")" "${import_words[@]}" < "$work/in" > /dev/null
+            read -r theirs _ < <(timed sqlite3 "$work/db" "select $selected")
+        fi
+        python3 -c "print(f'| $shape | \`$*\` | $named | $size | {$ours:.2f} | {$memory / 1000:.1f} | {$lines:.2f} | {$theirs:.2f} | {$ours / max($lines, 0.01):.2f} | {$ours / max($theirs, 0.01):.2f} |')"
+    done
+}
+one="json_extract(doc, '\$.user.name') from docs"
+above="json_extract(doc, '\$.id') from docs where json_extract(doc, '\$.amount') > 99000"
+for named in variant "all fits"; do
+    schema=variant
+    wide=variant
+    if [ "$named" != variant ]; then
+        schema=$records_schema
+        wide=$kilo_schema
+    fi
+    query_row records "$named" "$schema" "$one" '$.user.name'
+    query_row records "$named" "$schema" "$above" --where '$.amount > 99000' '$.id'
+    query_row kilo "$named" "$wide" "json_extract(doc, '\$.room') from docs" '$.room'
+done
+
 if command -v jq > /dev/null; then
     echo
     echo "| line | vstore | jq |"
@@ -100,7 +168,8 @@ if command -v valgrind > /dev/null; then
     echo
     echo "| input | bytes | instructions per byte |"
     echo "|---|---|---|"
-    collected() { valgrind --tool=callgrind --callgrind-out-file=/dev/null "$program" "$@" < "$work/in" 2>&1 > /dev/null | awk '/Collected/ {print $4}'; }
+    spent_on() { valgrind --tool=callgrind --callgrind-out-file=/dev/null "$@" < "$work/in" 2>&1 > /dev/null | awk '/Collected/ {print $4}'; }
+    collected() { spent_on "$program" "$@"; }
     count() { collected scan "$@"; }
     : > "$work/in"
     start=$(count '$.a')
@@ -131,6 +200,48 @@ if command -v valgrind > /dev/null; then
             bytes=$(stat -c %s "$work/in")
             echo "| $shape | $bytes | $(( ($(count '$.a') - start) / bytes )) |"
         done
+    done
+
+    # files written and read, per byte of their documents; what a call takes without documents is taken off
+    echo
+    echo "| documents | schema | load | query of one path | query \`$\` | check | scan of the path | sqlite3 import | with json_valid | sqlite3 json_extract |"
+    echo "|---|---|---|---|---|---|---|---|---|---|"
+    file_row() {
+        local shape=$1 named=$2 schema=$3 path=$4 cells="" base
+        python3 "$here/generate.py" "$shape" 1000000 > "$work/in"
+        bytes=$(stat -c %s "$work/in")
+        rm -f "$work/file" "$work/db"*
+        cells+=" $(( ($(spent_on "$program" load "$work/file" --schema "$schema") - start) / bytes ))"
+        cells+=" $(( ($(spent_on "$program" query "$work/file" "$path") - start) / bytes ))"
+        cells+=" $(( ($(spent_on "$program" query "$work/file" '$') - start) / bytes ))"
+        cells+=" $(( ($(spent_on "$program" check "$work/file") - start) / bytes ))"
+        cells+=" $(( ($(count "$path") - start) / bytes ))"
+        if has_sqlite; then
+            base=$(spent_on sqlite3 "$work/db0" "$(imported "")")
+            cells+=" $(( ($(spent_on sqlite3 "$work/db" "$(imported "")" "${import_words[@]}") - base) / bytes ))"
+            cells+=" $(( ($(spent_on sqlite3 "$work/db1" "$(imported "$valid")" "${import_words[@]}") - base) / bytes ))"
+            cells+=" $(( ($(spent_on sqlite3 "$work/db" "select json_extract(doc, '$path') from docs") - base) / bytes ))"
+        else
+            cells+=" - - -"
+        fi
+        echo "| $shape | $named |$(printf ' %s |' $cells)"
+    }
+    file_row numbers variant variant '$.a'
+    file_row records variant variant '$.user.name'
+    file_row records "all fits" "$records_schema" '$.user.name'
+    file_row kilo variant variant '$.room'
+    file_row kilo "all fits" "$kilo_schema" '$.room'
+
+    # row groups of one row each: what a group more costs, in the footer too
+    echo
+    echo "| row groups | instructions per group: load | query |"
+    echo "|---|---|---|"
+    for groups in 1000 4000 16000; do
+        python3 -c "for n in range($groups): print('{\"n\":%d}' % n)" > "$work/in"
+        rm -f "$work/file"
+        cells=" $(( ($(spent_on "$program" load "$work/file" --group-rows 1 --schema '{n:int64}') - start) / groups ))"
+        cells+=" $(( ($(spent_on "$program" query "$work/file" '$.n') - start) / groups ))"
+        echo "| $groups |$(printf ' %s |' $cells)"
     done
 
     # reading the bytes of Variant values: judging and viewing them, and making their trees
@@ -196,12 +307,11 @@ if command -v valgrind > /dev/null; then
             bytes=$(awk '{print $1}' "$work/out")
             python3 -c "print('| $shape, $fits fits | $bytes |' + ' |'.join(f' {int(n) / 1000 / $bytes:.1f}' for n in '$cost'.split()) + ' |')"
         }
-        counts() { python3 -c "print(','.join(f'c{k:02}:' + ('string' if k % $1 else 'int64') for k in range(24)))"; }
-        shredded_row records all '{id:int64,ts:string,user:{name:string,age:int8},amount:decimal(9,2),tags:[string]}'
+        shredded_row records all "$records_schema"
         shredded_row records half '{id:int64,ts:int64,user:{name:string,age:boolean},amount:boolean,tags:[string]}'
         shredded_row records none '{id:string,ts:int64,user:[int8],amount:boolean,tags:{x:int8}}'
         shredded_row records variant variant
-        shredded_row kilo all "{id:int64,ts:string,site:string,room:string,rack:string,owner:string,model:string,note:string,$(counts 1),places:[{x:decimal(9,2),y:decimal(9,2),at:string}],tags:[string],values:[int16],ok:boolean,alarm:variant}"
+        shredded_row kilo all "$kilo_schema"
         shredded_row kilo half "{id:int64,ts:int64,site:string,room:int8,rack:string,owner:int8,model:string,note:int8,$(counts 2),places:[{x:decimal(9,2),y:string,at:int8}],tags:[int8],values:[int16],ok:boolean,alarm:variant}"
         shredded_row kilo variant variant
         # one leaf of a row of 50: the typed part of the field in the middle
