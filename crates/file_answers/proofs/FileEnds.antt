@@ -8,8 +8,8 @@ use Rattle.command_words.specs.Check.{CheckGiven}
 use Rattle.store_file.specs.declared.file_faults.QueryFault.{QueryFault}
 use Rattle.store_file.specs.declared.file_faults.QueryFault.TheVariants as stop
 use Rattle.file_answers.specs.Beginning.{Readout, readout}
-use Rattle.file_answers.specs.Answering.{AnswersQuery, IsAnswered, query_end}
-use Rattle.file_answers.specs.Judging.{JudgesFile, IsJudged, IsShort, PrintsLine, count_line, check_error}
+use Rattle.file_answers.specs.Answering.{AnswersQuery, IsAnswered, error_of, query_end}
+use Rattle.file_answers.specs.Judging.{JudgesFile, IsJudged, IsShort, PrintsLine, count_line}
 use Rattle.file_answers.specs.declared.file_error.FileError.{FileError}
 use Rattle.file_answers.specs.declared.file_error.FileError.TheVariants.{Absent, Violated, ReadFault, WriteFault, NoMemory}
 
@@ -24,11 +24,10 @@ query_ended query (Err stop.NoMemory) a b w = inr w
 pub short_line : (groups rows : ℕ) (o : Device) → IsShort (count_line groups rows) o o
 short_line groups rows o = ((0, omega arith, Appends-nil o.bytes), refl)
 
-pub check_stopped : (check : CheckGiven) (why : QueryFault) (s t : Storage) (o : Device) → IsJudged check (Err why) s t → JudgesFile check (readout s o) (readout t o) (Err (check_error why))
+pub check_stopped : (check : CheckGiven) (why : QueryFault) (s t : Storage) (o : Device) → IsJudged check (Err why) s t → JudgesFile check (readout s o) (readout t o) (Err (error_of why))
 check_stopped check (stop.Refused v) s t o j = inr (record { leaves = j; same_out = refl })
 check_stopped check stop.ReadFault s t o j = inr (record { leaves = j; same_out = refl })
-check_stopped check stop.WriteFault s t o j =
-    inr (inl (record { leaves = record { file = j.file; between = j.between; begun = j.begun; asks = j.asks; judges = λ bytes i. tt }; same_out = refl }))
+check_stopped check stop.WriteFault s t o j = absurd j.asks
 check_stopped check stop.NoMemory s t o j = inr (inl (record { leaves = j; same_out = refl }))
 
 pub check_ended : (check : CheckGiven) (groups rows : ℕ) (s t : Storage) (o p : Device) (done : Result (Unit {0}) FileError) → IsJudged check (Ok (groups, rows)) s t → PrintsLine (count_line groups rows) o p done

@@ -35,12 +35,12 @@ AnswersQuery query before after (Err WriteFault) = IsAnswered query (Err stop.Wr
 AnswersQuery query before after (Err NoMemory) = NotBegun query fault.NoMemory before after ⊎ IsAnswered query (Err stop.NoMemory) before after
 
 -- why the groups weren't read to their end, as why the call was refused
-abbrev pub file_error : QueryFault → FileError
-file_error (stop.Refused violation) = Violated violation
-file_error stop.ReadFault = ReadFault
-file_error stop.WriteFault = WriteFault
-file_error stop.NoMemory = NoMemory
+abbrev pub error_of : QueryFault → FileError
+error_of (stop.Refused violation) = Violated violation
+error_of stop.ReadFault = ReadFault
+error_of stop.WriteFault = WriteFault
+error_of stop.NoMemory = NoMemory
 
 abbrev pub query_end : Result (Unit {0}) QueryFault → Result (Unit {0}) FileError
 query_end (Ok u) = Ok u
-query_end (Err why) = Err (file_error why)
+query_end (Err why) = Err (error_of why)

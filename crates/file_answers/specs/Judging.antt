@@ -7,7 +7,7 @@ use Rattle.thrift_footer.specs.Opening.{IsFile}
 use Rattle.thrift_footer.specs.declared.opening.OpenFault.{OpenFault}
 use Rattle.thrift_footer.specs.declared.opening.OpenFault.TheVariants as fault
 use Rattle.command_words.specs.Check.{CheckGiven}
-use Rattle.store_file.specs.FileCalls.{AsksGroups, Judges}
+use Rattle.store_file.specs.FileCalls.{JudgesGroups, Judges}
 use Rattle.store_file.specs.declared.file_faults.QueryFault.{QueryFault}
 use Rattle.store_file.specs.declared.file_faults.QueryFault.TheVariants as stop
 use Rattle.store_file.specs.declared.store_file.StoreFile.{StoreFile}
@@ -20,7 +20,7 @@ pub record IsJudged (check : CheckGiven) (done : Result (ℕ × ℕ) QueryFault)
   pub file : StoreFile
   pub between : Storage
   pub begun : IsBegun check.file check.column file before between
-  pub asks : AsksGroups file between after done
+  pub asks : JudgesGroups file between after done
   pub judges : (bytes : List ℕ) → IsFile before.files check.file bytes → Judges file bytes done
 
 -- it wasn't begun, or not read to its end; nothing was printed
@@ -68,10 +68,3 @@ JudgesFile check before after (Err (Violated violation)) = IsSilent (IsRefused c
 JudgesFile check before after (Err ReadFault) = NotBegun check fault.Failed before after ⊎ IsStopped check stop.ReadFault before after
 JudgesFile check before after (Err WriteFault) = IsCounted IsBroken check before after
 JudgesFile check before after (Err NoMemory) = NotBegun check fault.NoMemory before after ⊎ (IsStopped check stop.NoMemory before after ⊎ IsCounted IsShort check before after)
-
--- why a file wasn't judged, as why the call was refused. Judging writes nothing
-abbrev pub check_error : QueryFault → FileError
-check_error (stop.Refused violation) = Violated violation
-check_error stop.ReadFault = ReadFault
-check_error stop.WriteFault = NoMemory
-check_error stop.NoMemory = NoMemory

@@ -6,7 +6,7 @@ ghost use Rattle.file_answers.specs.Answering.{AnswersQuery, query_end};
 ghost use Rattle.file_answers.specs.Beginning.{readout};
 
 use crate::beginning::begin_file;
-use crate::file_error::FileError;
+use crate::file_error::{FileError, error_of};
 use command_parsing::QueryCommand;
 use outside::Sink;
 use shelf::Shelf;
@@ -18,10 +18,7 @@ fn query_end(done: Result<(), QueryFault>) -> Result<(), FileError>
 {
     match done {
         Ok(()) => Ok(()),
-        Err(QueryFault::Refused(violation)) => Err(FileError::Violated(violation)),
-        Err(QueryFault::ReadFault) => Err(FileError::ReadFault),
-        Err(QueryFault::WriteFault) => Err(FileError::WriteFault),
-        Err(QueryFault::NoMemory) => Err(FileError::NoMemory),
+        Err(fault) => Err(error_of(fault)),
     }
 }
 

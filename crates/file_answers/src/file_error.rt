@@ -1,7 +1,10 @@
 //! Why a call on a file was refused.
 
+ghost use Rattle.std.specs.Prelude.{◌≡◌};
+ghost use Rattle.file_answers.specs.Answering.{error_of};
+
 use std::error::Error;
-use store_file::Violation;
+use store_file::{QueryFault, Violation};
 use thiserror::Error;
 
 /// Why a call on a file was refused.
@@ -22,4 +25,16 @@ pub enum FileError {
     /// There was no memory.
     #[error("out of memory")]
     NoMemory,
+}
+
+/// Why the groups of a file weren't read to their end, as why the call was refused.
+pub(crate) fn error_of(fault: QueryFault) -> FileError
+    ensures { result ≡ error_of fault }
+{
+    match fault {
+        QueryFault::Refused(violation) => FileError::Violated(violation),
+        QueryFault::ReadFault => FileError::ReadFault,
+        QueryFault::WriteFault => FileError::WriteFault,
+        QueryFault::NoMemory => FileError::NoMemory,
+    }
 }

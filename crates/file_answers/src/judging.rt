@@ -6,15 +6,15 @@ ghost use Rattle.command_words.specs.Check.{CheckGiven};
 ghost use Rattle.shelf.specs.Storage.{Storage};
 ghost use Rattle.store_file.specs.Beginning.{IsUsable};
 ghost use Rattle.file_answers.specs.Beginning.{readout, IsBegun};
-ghost use Rattle.file_answers.specs.Judging.{JudgesFile, PrintsLine, count_line, check_error};
+ghost use Rattle.file_answers.specs.Judging.{JudgesFile, PrintsLine, count_line};
 
 use crate::beginning::begin_file;
-use crate::file_error::FileError;
+use crate::file_error::{FileError, error_of};
 use command_parsing::CheckCommand;
 use outside::{Sink, SinkError, write_all};
 use shelf::Shelf;
 use std::alloc::{AllocError, Global};
-use store_file::{QueryFault, StoreFile};
+use store_file::StoreFile;
 
 fn line_of(alloc: Global, groups: u64, rows: u64) -> Result<String, AllocError>
     ensures { IfOk result (λ line. string_bytes line ≡ count_line groups rows) }
@@ -39,17 +39,6 @@ fn print_line<O: Sink>(alloc: Global, groups: u64, rows: u64, out: &mut O) -> Re
     }
 }
 
-// Judging writes nothing, so that no write fails.
-fn check_error(fault: QueryFault) -> FileError
-    ensures { result ≡ check_error fault }
-{
-    match fault {
-        QueryFault::Refused(violation) => FileError::Violated(violation),
-        QueryFault::ReadFault => FileError::ReadFault,
-        QueryFault::WriteFault | QueryFault::NoMemory => FileError::NoMemory,
-    }
-}
-
 // Judges a file that was begun, and prints its counts.
 fn judge_groups<S: Shelf, O: Sink>(
     alloc: Global,
@@ -62,7 +51,7 @@ fn judge_groups<S: Shelf, O: Sink>(
 {
     match begun.check(alloc, shelf) {
         Ok((groups, rows)) => print_line(alloc, groups, rows, out),
-        Err(fault) => Err(check_error(fault)),
+        Err(fault) => Err(error_of(fault)),
     }
 }
 

@@ -50,14 +50,22 @@ chunks_in f g = group_plan f.mask f.name f.opened.end f.column g
 abbrev pub plan_of : StoreFile → List GroupMeta → List ByteRange
 plan_of f groups = flat_map (chunks_in f) groups
 
--- What a call leaves of the shelf: ranges of the plan were asked for in order, all of them where it read to the end.
--- Nothing else changed, but the count of reads that failed where one did.
+-- What a call leaves of the shelf: ranges of a plan were asked for in order, all of them where it read to the end. Nothing
+-- else changed, but the count of reads that failed where one did. `broken` is what holds after a write that failed.
+abbrev pub AsksPlan : {A : Type 0} → Type 0 → List ByteRange → Storage → Storage → Result A QueryFault → Type 0
+AsksPlan broken plan before after (Ok a) = Asks before after plan
+AsksPlan broken plan before after (Err (Refused violation)) = AsksFirst before after plan
+AsksPlan broken plan before after (Err ReadFault) = FailsAt before after plan
+AsksPlan broken plan before after (Err WriteFault) = broken
+AsksPlan broken plan before after (Err NoMemory) = AsksFirst before after plan
+
+-- a call that writes the lines of all groups
 abbrev pub AsksGroups : {A : Type 0} → StoreFile → Storage → Storage → Result A QueryFault → Type 0
-AsksGroups f before after (Ok a) = Asks before after (plan_of f (groups_in f))
-AsksGroups f before after (Err (Refused violation)) = AsksFirst before after (plan_of f (groups_in f))
-AsksGroups f before after (Err ReadFault) = FailsAt before after (plan_of f (groups_in f))
-AsksGroups f before after (Err WriteFault) = AsksFirst before after (plan_of f (groups_in f))
-AsksGroups f before after (Err NoMemory) = AsksFirst before after (plan_of f (groups_in f))
+AsksGroups f before after result = AsksPlan (AsksFirst before after (plan_of f (groups_in f))) (plan_of f (groups_in f)) before after result
+
+-- a call that judges all groups. It writes nothing, so that no write fails
+abbrev pub JudgesGroups : {A : Type 0} → StoreFile → Storage → Storage → Result A QueryFault → Type 0
+JudgesGroups f before after result = AsksPlan ⊥ (plan_of f (groups_in f)) before after result
 
 -- What a query answers on the bytes of a file, and what its output gained.
 
@@ -127,5 +135,5 @@ pub record Queries (f : StoreFile) (asked : Asked) (before after : Storage) (out
 
 -- a check: what it asked for, and what it answers by the bytes of the file
 pub record Checks (f : StoreFile) (before after : Storage) (result : Result (ℕ × ℕ) QueryFault) : Type 0 where
-  pub asks : AsksGroups f before after result
+  pub asks : JudgesGroups f before after result
   pub judges : OfFile before f.name (λ file. Judges f file result)

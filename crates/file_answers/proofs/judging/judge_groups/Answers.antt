@@ -24,6 +24,6 @@ returns-in-Err g c =
     let o = g.O.Sink.seen c.args.out.now in
     record {
       judges = λ check before b.
-          subst (λ (why : FileError). JudgesFile check (readout before o) (readout u o) (Err why)) (sym c.check_error.ensures)
+          subst (λ (why : FileError). JudgesFile check (readout before o) (readout u o) (Err why)) (sym c.error_of.ensures)
           (check_stopped check c.in-Err.fault before u o (judged check c.args.begun.now before t u _ b c.in-Err.ensures));
     }
