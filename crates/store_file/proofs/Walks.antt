@@ -1,14 +1,14 @@
 -- The walk over the groups of a file: what was asked for, and what was found in them.
-use Rattle.std.proofs.Common.{◌≡◌, ◌∙◌, refl, sym, ap, subst, ℕ, ◌+◌, ◌<◌, ◌≤◌, List, [], ◌∷◌, ◌++◌, length, get_or, take, drop, Some, Result, Ok, Err, arith, append_assoc, append-nil}
+use Rattle.std.proofs.Common.{◌≡◌, ◌∙◌, refl, sym, ap, subst, ℕ, ◌+◌, ◌<◌, ◌≤◌, List, [], ◌∷◌, ◌++◌, length, get_or, take, drop, Some, Result, Ok, Err, arith, append-nil}
 use Rattle.std.specs.List.{slice_get}
 use Rattle.std.proofs.lemmas.Option.{slice_get_within, slice_get-get_or}
 use Rattle.std.proofs.lemmas.List.{take_more, drop_more, take-append-drop, length-take-le, length-drop}
 use Rattle.std.proofs.lemmas.Grind.{flat_map-append}
-use Rattle.shelf.specs.Storage.{Storage, FailsRead}
+use Rattle.shelf.specs.Storage.{Storage}
 use Rattle.shelf.specs.declared.byte_range.ByteRange.{ByteRange}
 use Rattle.footer_structs.specs.declared.row_groups.GroupMeta.{GroupMeta}
 use Rattle.store_read.specs.Ranges.{IsFile, OfFile, with_ranges, Asks, AsksFirst, FailsAt}
-use Rattle.store_read.proofs.Reading.{no_ranges}
+use Rattle.store_read.proofs.Reading.{no_ranges, asked_on, first_on, fails_on}
 use Rattle.store_file.specs.SeenGroups.{all_found, with_group, seen_of}
 use Rattle.store_file.specs.FileCalls.{groups_in, chunks_in, plan_of}
 use Rattle.store_file.specs.declared.file_faults.Violation.{Violation}
@@ -80,12 +80,6 @@ seen_front gives groups k done within seen =
 
 -- What was asked for.
 
-ranges_on : (before now : Storage) (front more : List ByteRange) → now ≡ with_ranges before front → with_ranges now more ≡ with_ranges before (front ++ more)
-ranges_on before now front more asked = ap (λ (s : Storage). with_ranges s more) asked ∙ ap (λ ranges. record before { touched = ranges }) (append_assoc before.touched front more)
-
-asked_on : (before now new : Storage) (front more : List ByteRange) → now ≡ with_ranges before front → new ≡ with_ranges now more → new ≡ with_ranges before (front ++ more)
-asked_on before now new front more asked again = again ∙ ranges_on before now front more asked
-
 pub plan_more : (f : StoreFile) (groups : List GroupMeta) (k : ℕ) (g : GroupMeta) → slice_get groups k ≡ Some g → plan_of f (take (k + 1) groups) ≡ plan_of f (take k groups) ++ chunks_in f g
 plan_more f groups k g at =
     ap (plan_of f) (parts_at groups k g at).front
@@ -111,27 +105,10 @@ asked_more f before now new k g at asked more = record {
 }
 
 pub asked_first : (f : StoreFile) (before now new : Storage) (k : ℕ) (g : GroupMeta) → slice_get (groups_in f) k ≡ Some g → AskedGroups f before now k → AsksFirst now new (chunks_in f g) → AsksFirst before new (plan_of f (groups_in f))
-asked_first f before now new k g at asked more =
-    let front = plan_of f (take k (groups_in f)) in
-    let later = plan_of f (drop (k + 1) (groups_in f)) in
-    record {
-      front = front ++ more.front;
-      rest = more.rest ++ later;
-      planned = append_assoc front more.front (more.rest ++ later) ∙ (ap (λ (xs : List ByteRange). front ++ xs) (sym (append_assoc more.front more.rest later) ∙ ap (λ (xs : List ByteRange). xs ++ later) more.planned) ∙ plan_next f (groups_in f) k g at);
-      asked = asked_on before now new front more.front asked.ranges more.asked;
-    }
+asked_first f before now new k g at asked more = first_on before now new (plan_of f (groups_in f)) (chunks_in f g) (plan_of f (drop (k + 1) (groups_in f))) (plan_of f (take k (groups_in f))) (plan_next f (groups_in f) k g at) asked.ranges more
 
 pub asked_fails : (f : StoreFile) (before now new : Storage) (k : ℕ) (g : GroupMeta) → slice_get (groups_in f) k ≡ Some g → AskedGroups f before now k → FailsAt now new (chunks_in f g) → FailsAt before new (plan_of f (groups_in f))
-asked_fails f before now new k g at asked more =
-    let front = plan_of f (take k (groups_in f)) in
-    let later = plan_of f (drop (k + 1) (groups_in f)) in
-    record {
-      front = front ++ more.front;
-      rest = more.rest ++ later;
-      planned = append_assoc front more.front (more.rest ++ later) ∙ (ap (λ (xs : List ByteRange). front ++ xs) (sym (append_assoc more.front more.rest later) ∙ ap (λ (xs : List ByteRange). xs ++ later) more.planned) ∙ plan_next f (groups_in f) k g at);
-      failed = subst (λ (s : Storage). FailsRead s.counts new.counts) asked.ranges more.failed;
-      asked = more.asked ∙ ap (λ (s : Storage). record s { counts = new.counts }) (ranges_on before now front more.front asked.ranges);
-    }
+asked_fails f before now new k g at asked more = fails_on before now new (plan_of f (groups_in f)) (chunks_in f g) (plan_of f (drop (k + 1) (groups_in f))) (plan_of f (take k (groups_in f))) (plan_next f (groups_in f) k g at) asked.ranges more
 
 pub asked_part : (f : StoreFile) (before now : Storage) (k : ℕ) → AskedGroups f before now k → AsksFirst before now (plan_of f (groups_in f))
 asked_part f before now k asked = record {

@@ -3,6 +3,7 @@ use Rattle.std.proofs.Common.{◌≡◌, ◌∙◌, refl, sym, ap, subst, ℕ, L
 use Rattle.vs_bytes.specs.Numbers.{part}
 use Rattle.vs_bytes.specs.Outcome.{◌>>=◌}
 use Rattle.shelf.specs.Storage.{Storage, FailsRead}
+use Rattle.shelf.specs.Calls.{IsCounted, with_range}
 use Rattle.shelf.specs.declared.byte_range.ByteRange.{ByteRange}
 use Rattle.vs_bytes.specs.declared.leaf_columns.Entry.{Entry}
 use Rattle.vs_bytes.specs.declared.leaf_columns.Leaf.{Leaf}
@@ -29,11 +30,15 @@ asks_none s plan = record { front = []; rest = plan; planned = refl; asked = no_
 pub asks_all : (before after : Storage) (plan : List ByteRange) → Asks before after plan → AsksFirst before after plan
 asks_all before after plan asks = record { front = plan; rest = []; planned = append-nil plan; asked = asks.asked }
 
+-- the read of a range failed
+pub fails_one : (before after : Storage) (range : ByteRange) → FailsRead before.counts after.counts → IsCounted (with_range before range) after → FailsAt before after (range ∷ [])
+fails_one before after range failed asked = record { front = []; last = range; rest = []; planned = refl; failed = failed; asked = asked }
+
 -- ranges that were asked for one after the other
-ranges_on : (before now : Storage) (front more : List ByteRange) → now ≡ with_ranges before front → with_ranges now more ≡ with_ranges before (front ++ more)
+pub ranges_on : (before now : Storage) (front more : List ByteRange) → now ≡ with_ranges before front → with_ranges now more ≡ with_ranges before (front ++ more)
 ranges_on before now front more asked = ap (λ (s : Storage). with_ranges s more) asked ∙ ap (λ ranges. record before { touched = ranges }) (append_assoc before.touched front more)
 
-asked_on : (before now new : Storage) (front more : List ByteRange) → now ≡ with_ranges before front → new ≡ with_ranges now more → new ≡ with_ranges before (front ++ more)
+pub asked_on : (before now new : Storage) (front more : List ByteRange) → now ≡ with_ranges before front → new ≡ with_ranges now more → new ≡ with_ranges before (front ++ more)
 asked_on before now new front more asked again = again ∙ ranges_on before now front more asked
 
 -- One chunk.
@@ -120,7 +125,7 @@ pub walk_part : (before now : Storage) (name : List ℕ) (plan rest : List ByteR
 walk_part before now name plan rest defined left found walk = record { front = walk.front; rest = rest; planned = walk.planned; asked = walk.asked }
 
 -- what was asked for in a step, after what was asked for before
-first_on : (before now new : Storage) (plan first rest front : List ByteRange) → front ++ (first ++ rest) ≡ plan → now ≡ with_ranges before front → AsksFirst now new first → AsksFirst before new plan
+pub first_on : (before now new : Storage) (plan first rest front : List ByteRange) → front ++ (first ++ rest) ≡ plan → now ≡ with_ranges before front → AsksFirst now new first → AsksFirst before new plan
 first_on before now new plan first rest front planned asked step = record {
   front = front ++ step.front;
   rest = step.rest ++ rest;
@@ -128,14 +133,18 @@ first_on before now new plan first rest front planned asked step = record {
   asked = asked_on before now new front step.front asked step.asked;
 }
 
-fails_on : (before now new : Storage) (plan first rest front : List ByteRange) → front ++ (first ++ rest) ≡ plan → now ≡ with_ranges before front → FailsAt now new first → FailsAt before new plan
-fails_on before now new plan first rest front planned asked step = record {
-  front = front ++ step.front;
-  rest = step.rest ++ rest;
-  planned = append_assoc front step.front (step.rest ++ rest) ∙ (ap (λ xs. front ++ xs) (sym (append_assoc step.front step.rest rest) ∙ ap (λ xs. xs ++ rest) step.planned) ∙ planned);
-  failed = subst (λ (s : Storage). FailsRead s.counts new.counts) asked step.failed;
-  asked = step.asked ∙ ap (λ (s : Storage). record s { counts = new.counts }) (ranges_on before now front step.front asked);
-}
+pub fails_on : (before now new : Storage) (plan first rest front : List ByteRange) → front ++ (first ++ rest) ≡ plan → now ≡ with_ranges before front → FailsAt now new first → FailsAt before new plan
+fails_on before now new plan first rest front planned asked step =
+    let last : List ByteRange = step.last ∷ [] in
+    let later : List ByteRange = step.last ∷ step.rest in
+    record {
+      front = front ++ step.front;
+      last = step.last;
+      rest = step.rest ++ rest;
+      planned = append_assoc front step.front (later ++ rest) ∙ (ap (λ xs. front ++ xs) (sym (append_assoc step.front later rest) ∙ ap (λ xs. xs ++ rest) step.planned) ∙ planned);
+      failed = subst (λ (s : Storage). FailsRead s.counts new.counts) asked step.failed;
+      asked = step.asked ∙ ap (λ (s : Storage). record s { counts = new.counts }) (ranges_on before now front (step.front ++ last) asked ∙ ap (with_ranges before) (sym (append_assoc front step.front last)));
+    }
 
 pub walk_stops : (before now new : Storage) (name : List ℕ) (plan first rest : List ByteRange) (defined left later : List ℕ → Result (List (List Entry)) GroupFault) (step : List ℕ → Result (List Entry) GroupFault) (found : List (List Entry)) (stop : ReadStop GroupFault) →
     Walk before now name plan (first ++ rest) defined left found → ((file : List ℕ) → left file ≡ one_leaf (step file) (later file)) →

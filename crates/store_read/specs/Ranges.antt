@@ -1,6 +1,6 @@
 -- What a call reads of a file, and what it leaves of the shelf, by cases on its answer. Ranges are asked for in the order
 -- of a plan.
-use Rattle.std.specs.Prelude.{◌≡◌, ℕ, List, ◌++◌, ◌⊎◌, length, Option, None, Some, Result, Ok, Err}
+use Rattle.std.specs.Prelude.{◌≡◌, ℕ, List, [], ◌∷◌, ◌++◌, ◌⊎◌, length, Option, None, Some, Result, Ok, Err}
 use Rattle.std.specs.FinMap.{get}
 use Rattle.shelf.specs.Storage.{Files, Storage, Shows, FailsRead}
 use Rattle.shelf.specs.Calls.{IsCounted, with_range}
@@ -43,13 +43,14 @@ pub record AsksFirst (before after : Storage) (plan : List ByteRange) : Type 0 w
   pub planned : front ++ rest ≡ plan
   pub asked : after ≡ with_ranges before front
 
--- the first of them, and the shelf failed
+-- the first of them, and the read of the last of these failed
 pub record FailsAt (before after : Storage) (plan : List ByteRange) : Type 0 where
   pub front : List ByteRange
+  pub last : ByteRange
   pub rest : List ByteRange
-  pub planned : front ++ rest ≡ plan
+  pub planned : front ++ last ∷ rest ≡ plan
   pub failed : FailsRead before.counts after.counts
-  pub asked : IsCounted (with_ranges before front) after
+  pub asked : IsCounted (with_ranges before (front ++ last ∷ [])) after
 
 -- What is read of the file `name`, where `defined` says what its bytes give: the value, seen through `view`, or what the
 -- file violates. A shelf that fails, or no memory, says nothing of that.

@@ -24,6 +24,7 @@ fn values_in(column: &Option<ColumnMeta>) -> u64
 }
 
 // The entries of the chunk that has these bytes.
+#[tactic(auto, using(crate::proofs::Reading::fails_one))]
 fn read_range<S: Shelf>(
     alloc: Global,
     shelf: &mut S,
