@@ -1,13 +1,16 @@
 -- One group of a file.
-use Rattle.std.proofs.Common.{◌≡◌, ◌∙◌, refl, sym, ap, subst, ℕ, ◌+◌, Bool, List, [], ◌∷◌, ◌++◌, length, Option, Result, Ok, Err, arith}
+use Rattle.std.proofs.Common.{◌≡◌, ◌∙◌, refl, sym, ap, subst, ℕ, ◌+◌, Bool, List, [], ◌∷◌, ◌++◌, length, Option, Some, Result, Ok, Err, arith}
 use Rattle.std.proofs.lemmas.List.{length_push}
 use Rattle.std.specs.Global.{Vec}
+use Rattle.std.specs.List.{slice_get}
 use Rattle.vs_bytes.specs.declared.refused.Refused.{Refused}
 use Rattle.vs_bytes.specs.declared.refused.Refused.TheVariants.{Fault, NoMemory}
 use Rattle.shred_schema.specs.Groups.{Group}
 use Rattle.group_reading.specs.RowsAhead.{with_row, RefusesRow}
 use Rattle.group_lines.proofs.RowsDone.{put_before, none_done, one_done, all_done, none_more}
 use Rattle.json_tree.specs.Json.{Json}
+use Rattle.json_tree.specs.declared.types.Tree.{Tree}
+use Rattle.vs_bytes.specs.Outcome.{Makes}
 use Rattle.query_tree.specs.Asked.{Asked}
 use Rattle.shelf.specs.Storage.{Storage}
 use Rattle.footer_structs.specs.declared.row_groups.GroupMeta.{GroupMeta}
@@ -18,11 +21,12 @@ use Rattle.store_read.specs.Ranges.{Gives, ReadsFile}
 use Rattle.store_read.specs.declared.read_stop.ReadStop.{ReadStop}
 use Rattle.store_read.specs.declared.read_stop.ReadStop.TheVariants as stop
 use Rattle.store_read.proofs.Reading.{asks_all}
-use Rattle.group_lines.specs.Lines.{lines_of, rows_left as lines_left, Prints, PrintsRows}
-use Rattle.store_file.specs.Places.{in_group, stop_in, refusal_in}
-use Rattle.store_file.specs.FileCalls.{rows_of, group_rows, group_lines, chunks_in}
+use Rattle.group_lines.specs.Lines.{lines_of, trees_of, rows_left as lines_left, Prints, PrintsRows}
+use Rattle.store_file.specs.Places.{in_group, stop_in, refusal_in, fault_of}
+use Rattle.store_file.specs.FileCalls.{groups_in, rows_of, group_rows, group_lines, chunks_in, ReadsRows}
 use Rattle.store_file.specs.GroupCalls.{OpensGroup, HasRows, CountsRows, CountsGroup}
 use Rattle.store_file.specs.declared.file_faults.Violation.{Violation}
+use Rattle.store_file.specs.declared.file_faults.QueryFault.{QueryFault}
 use Rattle.store_file.specs.declared.store_file.StoreFile.{StoreFile}
 
 pub group_stopped : (f : StoreFile) (before after : Storage) (k : ℕ) (g : GroupMeta) (why : ReadStop GroupFault) (result : ReadStop Violation) → ReadsGroup before after f.name f.mask f.opened.end f.column g (Err why) → result ≡ stop_in k why → OpensGroup f before after k g (Err result)
@@ -32,6 +36,45 @@ group_stopped f before after k g why result reads is = subst (λ (r : ReadStop V
     by (stop.Violated fault) r = record { of_file = λ file known. ap (in_group k) (r.of_file file known); asks = r.asks }
     by stop.Failed r = r
     by stop.NoMemory r = r
+
+-- Its rows.
+
+pub trees_given : (f : StoreFile) (before after : Storage) (k : ℕ) (g : GroupMeta) (rows : GroupRows) (trees : List (Option Tree)) →
+    Begins before after f.name f.mask f.opened.end f.column g rows → rows_left f.mask f.column rows ≡ Ok (trees_of trees) →
+    Gives before after f.name (chunks_in f g) (λ file. group_rows f file k g ≡ Ok (trees_of trees))
+trees_given f before after k g rows trees begins is = record {
+  of_file = λ file known. ap (in_group k) (begins.of_file file known ∙ is);
+  asks = begins.asks;
+}
+
+pub trees_refused : (f : StoreFile) (before after : Storage) (k : ℕ) (g : GroupMeta) (rows : GroupRows) (refusal : Refused GroupFault) (result : ReadStop Violation) →
+    Begins before after f.name f.mask f.opened.end f.column g rows → Makes {A = List (Option Tree)} trees_of (Err refusal) (rows_left f.mask f.column rows) → result ≡ refusal_in k refusal →
+    ReadsFile {A = List (Option Tree)} {B = List (Option Json)} trees_of before after f.name (chunks_in f g) (λ file. group_rows f file k g) (Err result)
+trees_refused f before after k g rows refusal result begins makes is =
+    subst (λ (r : ReadStop Violation). ReadsFile {A = List (Option Tree)} {B = List (Option Json)} trees_of before after f.name (chunks_in f g) (λ file. group_rows f file k g) (Err r)) (sym is) (by refusal makes)
+  where
+    by : (r : Refused GroupFault) → Makes {A = List (Option Tree)} trees_of (Err r) (rows_left f.mask f.column rows) → ReadsFile {A = List (Option Tree)} {B = List (Option Json)} trees_of before after f.name (chunks_in f g) (λ file. group_rows f file k g) (Err (refusal_in k r))
+    by (Fault fault) violated = record { of_file = λ file known. ap (in_group k) (begins.of_file file known ∙ violated); asks = asks_all before after (chunks_in f g) begins.asks }
+    by NoMemory none = asks_all before after (chunks_in f g) begins.asks
+
+pub trees_stopped : (f : StoreFile) (before after : Storage) (k : ℕ) (g : GroupMeta) (why : ReadStop Violation) → OpensGroup f before after k g (Err why) →
+    ReadsFile {A = List (Option Tree)} {B = List (Option Json)} trees_of before after f.name (chunks_in f g) (λ file. group_rows f file k g) (Err why)
+trees_stopped f before after k g (stop.Violated violation) stops = stops
+trees_stopped f before after k g stop.Failed stops = stops
+trees_stopped f before after k g stop.NoMemory stops = stops
+
+pub rows_read : (f : StoreFile) (before after : Storage) (k : ℕ) (g : GroupMeta) (trees : List (Option Tree)) → slice_get (groups_in f) k ≡ Some g →
+    Gives before after f.name (chunks_in f g) (λ file. group_rows f file k g ≡ Ok (trees_of trees)) → ReadsRows f before after k (Ok trees)
+rows_read f before after k g trees at given = record { group = g; at = at; asks = given.asks; gives = given.of_file }
+
+pub rows_stopped : (f : StoreFile) (before after : Storage) (k : ℕ) (g : GroupMeta) (why : ReadStop Violation) (result : QueryFault) → slice_get (groups_in f) k ≡ Some g →
+    ReadsFile {A = List (Option Tree)} {B = List (Option Json)} trees_of before after f.name (chunks_in f g) (λ file. group_rows f file k g) (Err why) → result ≡ fault_of why → ReadsRows f before after k (Err result)
+rows_stopped f before after k g why result at stops is = subst (λ (r : QueryFault). ReadsRows f before after k (Err r)) (sym is) (by why stops)
+  where
+    by : (s : ReadStop Violation) → ReadsFile {A = List (Option Tree)} {B = List (Option Json)} trees_of before after f.name (chunks_in f g) (λ file. group_rows f file k g) (Err s) → ReadsRows f before after k (Err (fault_of s))
+    by (stop.Violated violation) r = record { group = g; at = at; asks = r.asks; gives = r.of_file }
+    by stop.Failed r = record { group = g; at = at; asks = r; gives = λ file known. tt }
+    by stop.NoMemory r = record { group = g; at = at; asks = r; gives = λ file known. tt }
 
 -- The lines of its rows.
 

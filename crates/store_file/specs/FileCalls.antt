@@ -3,6 +3,7 @@ use Rattle.std.specs.Prelude.{◌≡◌, ℕ, List, length, take, slice_get, Opt
 use Rattle.std.specs.List.{flat_map}
 use Rattle.std.specs.Io.KnownBytes.{Appends}
 use Rattle.json_tree.specs.Json.{Json}
+use Rattle.json_tree.specs.declared.types.Tree.{Tree}
 use Rattle.query_tree.specs.Asked.{Asked}
 use Rattle.outside.specs.Devices.{Device, IsCalm, Fails, AppendsPrefix}
 use Rattle.shelf.specs.Storage.{Storage}
@@ -11,7 +12,7 @@ use Rattle.footer_structs.specs.declared.row_groups.GroupMeta.{GroupMeta}
 use Rattle.group_reading.specs.declared.group_faults.GroupFault.{GroupFault}
 use Rattle.store_read.specs.Ranges.{with_ranges, OfFile, Asks, AsksFirst, FailsAt}
 use Rattle.store_read.specs.GroupRead.{group_in, group_plan}
-use Rattle.group_lines.specs.Lines.{lines_of}
+use Rattle.group_lines.specs.Lines.{lines_of, trees_of}
 use Rattle.store_file.specs.Places.{in_group}
 use Rattle.store_file.specs.SeenGroups.{Seen, all_found, seen_of}
 use Rattle.store_file.specs.declared.file_faults.Violation.{Violation}
@@ -108,6 +109,15 @@ CountsWrites before after (Err ReadFault) = IsCalm before after
 CountsWrites before after (Err WriteFault) = Fails before after
 CountsWrites before after (Err NoMemory) = IsCalm before after
 
+-- What the rows of a group are by the bytes of a file, where `defined` says what the group gives.
+
+abbrev pub GivesRows : Result (List (Option Json)) Violation → Result (List (Option Tree)) QueryFault → Type 0
+GivesRows defined (Ok trees) = defined ≡ Ok (trees_of trees)
+GivesRows defined (Err (Refused violation)) = defined ≡ Err violation
+GivesRows defined (Err ReadFault) = Unit {0}
+GivesRows defined (Err WriteFault) = ⊥
+GivesRows defined (Err NoMemory) = Unit {0}
+
 -- What a check answers on the bytes of a file.
 
 -- no group violates a rule, and the file has so many groups and rows
@@ -137,3 +147,10 @@ pub record Queries (f : StoreFile) (asked : Asked) (before after : Storage) (out
 pub record Checks (f : StoreFile) (before after : Storage) (result : Result (ℕ × ℕ) QueryFault) : Type 0 where
   pub asks : JudgesGroups f before after result
   pub judges : OfFile before f.name (λ file. Judges f file result)
+
+-- the rows of group k: the chunks of this group alone were asked for, and what they give by the bytes of the file
+pub record ReadsRows (f : StoreFile) (before after : Storage) (k : ℕ) (result : Result (List (Option Tree)) QueryFault) : Type 0 where
+  pub group : GroupMeta
+  pub at : slice_get (groups_in f) k ≡ Some group
+  pub asks : AsksPlan ⊥ (chunks_in f group) before after result
+  pub gives : OfFile before f.name (λ file. GivesRows (group_rows f file k group) result)

@@ -2,15 +2,16 @@
 
 ghost use Rattle.std.specs.Prelude.{◌≡◌};
 ghost use Rattle.query_tree.specs.Asked.{query_of};
+ghost use Rattle.group_lines.specs.Lines.{trees_of};
 ghost use Rattle.store_read.specs.Ranges.{ReadsFile};
 ghost use Rattle.store_file.specs.Beginning.{IsUsable};
-ghost use Rattle.store_file.specs.FileCalls.{chunks_in, group_lines};
+ghost use Rattle.store_file.specs.FileCalls.{chunks_in, group_rows, group_lines};
 ghost use Rattle.store_file.specs.GroupCalls.{OpensGroup};
 
 use crate::file_faults::{Violation, refusal_in, stop_in};
 use crate::store_file::StoreFile;
 use footer_structs::GroupMeta;
-use group_lines::print_rows;
+use group_lines::{RowTrees, collect_rows, print_rows};
 use group_reading::GroupRows;
 use query_tree::Query;
 use shelf::Shelf;
@@ -40,6 +41,27 @@ pub(crate) fn open_group<S: Shelf>(
     ) {
         Ok(rows) => Ok(rows),
         Err(stop) => Err(stop_in(k, stop)),
+    }
+}
+
+/// The rows of group k.
+#[tactic(auto, using(crate::proofs::GroupsRead::trees_given, crate::proofs::GroupsRead::trees_refused, crate::proofs::GroupsRead::trees_stopped))]
+pub(crate) fn read_trees<S: Shelf>(
+    alloc: Global,
+    shelf: &mut S,
+    file: &StoreFile,
+    k: usize,
+    group: &GroupMeta,
+) -> Result<RowTrees, ReadStop<Violation>>
+    requires usable { IsUsable file.now }
+    ensures { ReadsFile trees_of (S.seen shelf.old) (S.seen shelf.new) file.now.name (chunks_in file.now group.now) (λ bytes. group_rows file.now bytes k group.now) result }
+{
+    match open_group(alloc, shelf, file, k, group) {
+        Ok(rows) => match collect_rows(alloc, rows, &file.column.column, &file.mask) {
+            Ok(trees) => Ok(trees),
+            Err(refusal) => Err(refusal_in(k, refusal)),
+        },
+        Err(stop) => Err(stop),
     }
 }
 

@@ -5,6 +5,7 @@
 //! | `store_file` | `StoreFile`: a file that was begun |
 //! | `querying` | `StoreFile::query`: the lines of a query |
 //! | `checking` | `StoreFile::check`: whether the file violates a rule |
+//! | `row_reading` | `StoreFile::rows`: the rows of a row group |
 //! | `file_groups` | one row group of a file: its rows, and the lines of a query over them |
 //! | `laws` | that the lines that are seen are the answer over the rows that are seen |
 //! | `file_faults` | `Place`, `Violation`, `QueryFault`: what a file violates and where, and why a call was refused |
@@ -15,6 +16,7 @@ mod file_faults;
 mod file_groups;
 mod laws;
 mod querying;
+mod row_reading;
 mod store_file;
 
 pub use file_faults::{Place, QueryFault, Violation};
