@@ -8,7 +8,7 @@ ghost use Rattle.group_tests.specs.Given.{variant};
 use crate::given::{METADATA, VALUES, column};
 use file_columns::FileColumn;
 use footer_structs::GroupMeta;
-use group_lines::RowTrees;
+use group_lines::{RowTrees, collect_rows, print_rows};
 use json_tree::Tree;
 use path_query::parse_path;
 use query_tree::{PathList, Query};
@@ -17,7 +17,7 @@ use shred_schema::{Mask, leaves};
 use std::alloc::Global;
 use std::process::Abort;
 use std::test::Fail;
-use store_rows::{print_group, read_rows};
+use store_read::read_group;
 use thrift_structs::{ChunkMeta, ColumnMeta};
 use vs_bytes::{Bytes, NoMemory, Sequence, Text};
 
@@ -118,8 +118,8 @@ fn rows_read(
 ) -> Option<RowTrees>
     requires { CanRead column.now mask.now }
 {
-    match read_rows(alloc, shelf, name, FOOTER_PLACE, column, group, mask) {
-        Ok(rows) => Some(rows),
+    match read_group(alloc, shelf, name, FOOTER_PLACE, column, group, mask) {
+        Ok(rows) => collect_rows(alloc, rows, &column.column, mask).ok(),
         Err(_) => None,
     }
 }
@@ -137,17 +137,9 @@ fn lines_read(
     requires { CanRead column.now mask.now }
 {
     let mut lines = Vec::new(alloc);
-    let _printed = print_group(
-        alloc,
-        &mut lines,
-        shelf,
-        name,
-        FOOTER_PLACE,
-        column,
-        group,
-        mask,
-        query,
-    );
+    if let Ok(rows) = read_group(alloc, shelf, name, FOOTER_PLACE, column, group, mask) {
+        let _printed = print_rows(alloc, &mut lines, rows, &column.column, mask, query);
+    }
     lines
 }
 
