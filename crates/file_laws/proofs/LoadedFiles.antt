@@ -108,8 +108,7 @@ module _ (load : Load) (input : List ℕ) (before after : Intake) (loaded : IsLo
       (file_valid (settings_of load) loaded.can.schema.text load.schema (rows_of written.documents) written.bytes loaded.can.settings loaded.can.schema.is_schema written_documents written.is_made)
 
   still_there : (file column : List ℕ) (from : Readout) → FollowsLoad load after file column from → IsFile from.shelf.files file written.bytes
-  still_there file column from r =
-      subst (λ (name : List ℕ). IsFile from.shelf.files name written.bytes) (sym r.same_file) (subst (λ (files : Option Files). IsFile files load.out written.bytes) (sym r.same_files) written.there)
+  still_there file column from r = subst (λ (name : List ℕ). IsFile from.shelf.files name written.bytes) (sym r.same_file) (r.stays written.bytes written.there)
 
   pub loaded_answers : (query : FileQuery) (from to : Readout) → FollowsLoad load after query.file query.column from → AnswersQuery query from to (Ok tt)
       → OfDocuments input (λ documents. Appends from.out.bytes to.out.bytes (answer_over (scan query.asked) documents))

@@ -5,6 +5,7 @@ use Rattle.json_tree.specs.Json.{Json}
 use Rattle.json_documents.specs.Documents.{at_end, HasDocuments}
 use Rattle.outside.specs.Devices.{Device}
 use Rattle.shelf.specs.Storage.{Files}
+use Rattle.thrift_footer.specs.Opening.{IsFile}
 use Rattle.schema_parsing.specs.Canonical.{HasText}
 use Rattle.command_parsing.specs.Commands.{Load}
 use Rattle.open_group.specs.OpenGroups.{IsSettings}
@@ -25,9 +26,9 @@ pub record IsLoaded (load : Load) (input : List ℕ) (before after : Intake) : T
   pub are_files : before.shelf.files ≡ Some files
   pub loads : Loads load before after (Ok tt)
 
--- a call reads the file that a load wrote, at its column, where the files are as the load left them
+-- a call reads the file that a load wrote, at its column, where the file has the bytes that the load left
 pub record FollowsLoad (load : Load) (after : Intake) (file column : List ℕ) (from : Readout) : Type 0 where
-  pub same_files : from.shelf.files ≡ after.shelf.files
+  pub stays : (bytes : List ℕ) → IsFile after.shelf.files load.out bytes → IsFile from.shelf.files load.out bytes
   pub same_file : file ≡ load.out
   pub same_column : column ≡ column_name
 

@@ -88,7 +88,7 @@ pub fn asked_loads_can_be_written()
 {}
 
 /// A query over a file that was loaded prints what `scan` prints of the same documents, in order, and a check counts them.
-/// Where no device fails each is done, or has no memory. The files are as the load left them.
+/// Where no device fails each is done, or has no memory. Of the files this one alone has to be as the load left it.
 pub fn loaded_documents_are_answered()
     ensures same_words { (asked : Asked) (documents : List Json) → answer_of asked (rows_of documents) ≡ answer_over (scan asked) documents }
     ensures query { (load : Load) (input : List ℕ) (before after : Intake) (query : FileQuery) (from to : Readout) → IsLoaded load input before after → FollowsLoad load after query.file query.column from → AnswersQuery query from to (Ok tt) → OfDocuments input (λ documents. Appends from.out.bytes to.out.bytes (answer_over (scan query.asked) documents)) }
