@@ -50,7 +50,7 @@ judged check f s t u done b q = record {
 
 -- opening, or the search for the column, found what the file violates
 pub refused : (name column : List ℕ) (s t : Storage) (rule : Rule) (why : OpenFault) → why ≡ fault.Refused rule → opening.Asks {A = StoreFile} s t name (opening_ranges name) (Err why)
-    → ((bytes : List ℕ) → IsFile s.files name bytes → Begins (beginning bytes column) (Err why)) → (IsMissing s.files name → IsUnopened {A = StoreFile} (Err why))
+    → ((bytes : List ℕ) → IsFile s.files name bytes → Begins (beginning bytes column) (Err why)) → (IsMissing s.files name → IsUnopened {A = StoreFile} s t (Err why))
     → IsRefused name column (record { rule = rule; place = place.File }) s t
 refused name column s t rule why e asks begins missing = record { whole = refl; unbegun = subst (λ (w : OpenFault). IsUnbegun name column w s t) e (record { asks = asks; of_file = begins; missing = missing }) }
 

@@ -26,7 +26,7 @@ readout shelf out = record { shelf = shelf; out = out }
 pub record IsUnbegun (name column : List ℕ) (why : OpenFault) (before after : Storage) : Type 0 where
   pub asks : opening.Asks {A = StoreFile} before after name (opening_ranges name) (Err why)
   pub of_file : (bytes : List ℕ) → IsFile before.files name bytes → Begins (beginning bytes column) (Err why)
-  pub missing : IsMissing before.files name → IsUnopened {A = StoreFile} (Err why)
+  pub missing : IsMissing before.files name → IsUnopened {A = StoreFile} before after (Err why)
 
 -- opening, or the search for the column, found what the file violates as a whole
 pub record IsRefused (name column : List ℕ) (violation : Violation) (before after : Storage) : Type 0 where
@@ -41,7 +41,7 @@ IsOf column bytes file = beginning bytes column ≡ Ok (file.opened, shown file.
 pub record IsBegun (name column : List ℕ) (file : StoreFile) (before after : Storage) : Type 0 where
   pub asks : opening.Asks before after name (opening_ranges name) (Ok file)
   pub of_file : (bytes : List ℕ) → IsFile before.files name bytes → IsOf column bytes file
-  pub missing : IsMissing before.files name → IsUnopened (Ok file)
+  pub missing : IsMissing before.files name → IsUnopened before after (Ok file)
   pub is_named : file.name ≡ name
   pub usable : IsUsable file
 

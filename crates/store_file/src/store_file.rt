@@ -49,7 +49,7 @@ impl StoreFile {
     ) -> Result<StoreFile, OpenFault>
         ensures asks { Asks (S.seen shelf.old) (S.seen shelf.new) name (opening_ranges name) result }
         ensures begins { (file : List ℕ) → IsFile (S.seen shelf.old).files name file → Begins (beginning file column_name.now) result }
-        ensures missing { IsMissing (S.seen shelf.old).files name → IsUnopened result }
+        ensures missing { IsMissing (S.seen shelf.old).files name → IsUnopened (S.seen shelf.old) (S.seen shelf.new) result }
         ensures name { IfOk result (λ f. f.name ≡ name) }
         ensures usable { IfOk result IsUsable }
     {

@@ -104,6 +104,13 @@ asks_failed before after name p f e = record {
   keeps = λ file k. (p file, refl);
 }
 
+-- nothing was asked for
+pub touched_kept : (before after : Storage) → IsCounted before after → after.touched ≡ before.touched
+touched_kept before after counted = ap (λ (s : Storage). s.touched) counted
+
+pub touched_same : (before after : Storage) → after ≡ before → after.touched ≡ before.touched
+touched_same before after same = ap (λ (s : Storage). s.touched) same
+
 no_file : (files : Option Files) (name file : List ℕ) → Lacks files name → IsFile files name file → ⊥
 no_file files name file l k =
     let lacks : Lacks (Some k.map) name = subst (λ (fs : Option Files). Lacks fs name) k.known l in

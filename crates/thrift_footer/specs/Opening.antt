@@ -132,10 +132,10 @@ IsThere (Err Failed) = Unit {0}
 IsThere (Err (Refused rule)) = Unit {0}
 IsThere (Err NoMemory) = Unit {0}
 
--- no file was opened, and none is judged
-abbrev pub IsUnopened : {A : Type 0} → Result A OpenFault → Type 0
-IsUnopened (Ok a) = ⊥
-IsUnopened (Err Absent) = Unit {0}
-IsUnopened (Err Failed) = Unit {0}
-IsUnopened (Err (Refused rule)) = ⊥
-IsUnopened (Err NoMemory) = Unit {0}
+-- no file was opened, none is judged, and no range was asked for
+abbrev pub IsUnopened : {A : Type 0} → Storage → Storage → Result A OpenFault → Type 0
+IsUnopened before after (Ok a) = ⊥
+IsUnopened before after (Err Absent) = after.touched ≡ before.touched
+IsUnopened before after (Err Failed) = after.touched ≡ before.touched
+IsUnopened before after (Err (Refused rule)) = ⊥
+IsUnopened before after (Err NoMemory) = after.touched ≡ before.touched

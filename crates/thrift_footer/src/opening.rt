@@ -195,11 +195,12 @@ fn open_long<S: Shelf>(
 ///
 /// The violations are tried in this order. `NotParquet`: it has fewer than 12 bytes, or its first or last 4 aren't
 /// `PAR1`. `FooterLength`: the footer is longer than 2^26 bytes or than what lies between the ends. Then those of
-/// `read_footer`. A file that is too short isn't read.
+/// `read_footer`. A file that is too short isn't read, and nothing is read where there is none.
+#[tactic(auto, using(crate::proofs::Asking::touched_kept, crate::proofs::Asking::touched_same))]
 pub fn open_file<S: Shelf>(alloc: Global, shelf: &mut S, name: &Text) -> Result<Opened, OpenFault>
     ensures asks { Asks (S.seen shelf.old) (S.seen shelf.new) name.now (opening_ranges name.now) result }
     ensures exact { (file : List ℕ) → IsFile (S.seen shelf.old).files name.now file → Judges (opening file) result }
-    ensures missing { IsMissing (S.seen shelf.old).files name.now → IsUnopened result }
+    ensures missing { IsMissing (S.seen shelf.old).files name.now → IsUnopened (S.seen shelf.old) (S.seen shelf.new) result }
 {
     match shelf.length(name) {
         Ok(len) => open_long(alloc, shelf, name, len),
