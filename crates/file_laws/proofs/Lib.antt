@@ -14,3 +14,5 @@ pub mod MadeFiles
 pub mod LoadedFiles
 -- what words ask a load to write
 pub mod LoadWords
+-- calls of the program that ended at 0
+pub mod DoneCalls

@@ -28,14 +28,14 @@ use Rattle.variant_store.specs.Stream.{scan}
 use Rattle.variant_store.specs.Streaming.{Streams}
 use Rattle.variant_store.specs.World.{Pipe}
 use Rattle.store_laws.specs.ValidFiles.{IsValid}
-use Rattle.store_laws.proofs.MadeFiles.{file_valid, file_groups}
+use Rattle.store_laws.proofs.MadeFiles.{file_valid, file_groups, file_honest}
 use Rattle.file_answers.specs.Answering.{AnswersQuery}
 use Rattle.file_answers.specs.Beginning.{Readout, HasFault}
 use Rattle.file_answers.specs.Completing.{IsDone}
 use Rattle.file_answers.specs.Judging.{JudgesFile, IsWhole, count_line}
 use Rattle.file_answers.specs.declared.file_error.FileError.{FileError}
 use Rattle.file_answers.proofs.Sound.{query_done, check_done}
-use Rattle.file_laws.specs.Loaded.{IsLoaded, FollowsLoad, OfDocuments, GainTheSame}
+use Rattle.file_laws.specs.Loaded.{IsLoaded, FollowsLoad, OfDocuments, GainTheSame, HoldsAll}
 use Rattle.file_laws.proofs.ValidFiles.{valid_answerable, valid_judgeable, valid_prints, valid_checks}
 
 -- The answer over the rows of documents is what `scan` prints of the documents.
@@ -106,6 +106,16 @@ module _ (load : Load) (input : List ℕ) (before after : Intake) (loaded : IsLo
   valid column same =
       subst (λ (name : List ℕ). IsValid written.bytes name (rows_of written.documents)) (sym same)
       (file_valid (settings_of load) loaded.can.schema.text load.schema (rows_of written.documents) written.bytes loaded.can.settings loaded.can.schema.is_schema written_documents written.is_made)
+
+  pub loaded_holds : HoldsAll after.shelf.files load.out input
+  loaded_holds = record {
+    documents = written.documents;
+    are_all = written.are_all;
+    bytes = written.bytes;
+    there = written.there;
+    valid = valid column_name refl;
+    honest = file_honest (settings_of load) loaded.can.schema.text load.schema (rows_of written.documents) written.bytes loaded.can.settings loaded.can.schema.is_schema written_documents written.is_made;
+  }
 
   still_there : (file column : List ℕ) (from : Readout) → FollowsLoad load after file column from → IsFile from.shelf.files file written.bytes
   still_there file column from r = subst (λ (name : List ℕ). IsFile from.shelf.files name written.bytes) (sym r.same_file) (r.stays written.bytes written.there)

@@ -1,5 +1,5 @@
 -- A file has one first violation, and where it has one no call on it is done.
-use Rattle.std.proofs.Common.{◌≡◌, ◌∙◌, inl, inr, refl, sym, ap, subst, ℕ, List, Option, None, Some, Result, Ok, Err}
+use Rattle.std.proofs.Common.{◌≡◌, ◌∙◌, ◌⊎◌, inl, inr, refl, sym, ap, subst, ℕ, List, Option, None, Some, Result, Ok, Err}
 use Rattle.json_tree.specs.Json.{Json}
 use Rattle.vs_bytes.specs.declared.rule.Rule.{Rule}
 use Rattle.thrift_footer.specs.Opening.{IsFile}
@@ -15,10 +15,14 @@ use Rattle.store_file.specs.declared.file_faults.Violation.{Violation}
 use Rattle.store_file.specs.declared.store_file.StoreFile.{StoreFile}
 use Rattle.store_file.proofs.RowLines.{lines_answer}
 use Rattle.file_answers.specs.Answering.{AnswersQuery}
-use Rattle.file_answers.specs.Beginning.{Readout, IsWrongAtFirst}
+use Rattle.shelf.specs.Storage.{Storage, FailsRead}
+use Rattle.shelf.specs.declared.tally.Counts.{Counts}
+use Rattle.file_answers.specs.Beginning.{Readout, IsWrongAtFirst, IsBegun, HasFault}
 use Rattle.file_answers.specs.Completing.{HasViolation, QueryViolates, CheckViolates}
 use Rattle.file_answers.specs.Judging.{JudgesFile}
-use Rattle.file_answers.specs.declared.file_error.FileError.TheVariants.{Violated}
+use Rattle.file_answers.specs.declared.file_error.FileError.{FileError}
+use Rattle.file_answers.specs.declared.file_error.FileError.TheVariants.{Absent, Violated, ReadFault, WriteFault, NoMemory}
+use Rattle.file_answers.proofs.Unchanged.{counts_begun}
 use Rattle.file_laws.specs.Begun.{IsBegunFrom}
 use Rattle.file_laws.proofs.SeenAlike.{same_rows}
 use Rattle.file_laws.proofs.Starts.{Start}
@@ -114,3 +118,28 @@ pub check_not_done : (check : CheckGiven) (before after : Readout) (bytes : List
 check_not_done check before after bytes v there h w =
     not_stopped check bytes w.judged.file v (record { usable = w.judged.begun.usable; is_of = w.judged.begun.of_file bytes there })
     (ap (λ (s : Seen (Option Json)). s.stop) (w.judged.judges bytes there).valid) h
+
+-- Where no device fails they answer it, or have no memory.
+
+failed_in_call : (name column : List ℕ) (f : StoreFile) (s t u : Storage) → IsBegun name column f s t → FailsRead t.counts u.counts → FailsRead s.counts u.counts
+failed_in_call name column f s t u b h = subst (λ (c : Counts). FailsRead c u.counts) (counts_begun name column f s t b) h
+
+pub query_answers : (query : FileQuery) (a b : Readout) (done : Result (Unit {0}) FileError) (bytes : List ℕ) (v : Violation) → IsFile a.shelf.files query.file bytes → QueryViolates query bytes v → AnswersQuery query a b done → (HasFault a b → ⊥)
+    → (done ≡ Err (Violated v)) ⊎ (done ≡ Err NoMemory)
+query_answers query a b (Ok u) bytes v there has h calm = absurd (query_not_done query a b bytes v there has h)
+query_answers query a b (Err Absent) bytes v there has h calm = absurd (h.leaves.of_file bytes there)
+query_answers query a b (Err (Violated w)) bytes v there has h calm = inl (ap (λ (x : Violation). Err (Violated x)) (query_one query bytes w v (query_names query a b bytes w there h) has))
+query_answers query a b (Err ReadFault) bytes v there has (inl h) calm = absurd (calm (inl h.leaves.asks.leaves.0))
+query_answers query a b (Err ReadFault) bytes v there has (inr h) calm = absurd (calm (inl (failed_in_call query.file query.column h.file a.shelf h.between b.shelf h.begun h.asks.failed)))
+query_answers query a b (Err WriteFault) bytes v there has h calm = absurd (calm (inr h.counts))
+query_answers query a b (Err NoMemory) bytes v there has h calm = inr refl
+
+pub check_answers : (check : CheckGiven) (a b : Readout) (done : Result (Unit {0}) FileError) (bytes : List ℕ) (v : Violation) → IsFile a.shelf.files check.file bytes → CheckViolates check bytes v → JudgesFile check a b done → (HasFault a b → ⊥)
+    → (done ≡ Err (Violated v)) ⊎ (done ≡ Err NoMemory)
+check_answers check a b (Ok u) bytes v there has h calm = absurd (check_not_done check a b bytes v there has h)
+check_answers check a b (Err Absent) bytes v there has h calm = absurd (h.leaves.of_file bytes there)
+check_answers check a b (Err (Violated w)) bytes v there has h calm = inl (ap (λ (x : Violation). Err (Violated x)) (check_one check bytes w v (check_names check a b bytes w there h) has))
+check_answers check a b (Err ReadFault) bytes v there has (inl h) calm = absurd (calm (inl h.leaves.asks.leaves.0))
+check_answers check a b (Err ReadFault) bytes v there has (inr h) calm = absurd (calm (inl (failed_in_call check.file check.column h.leaves.file a.shelf h.leaves.between b.shelf h.leaves.begun h.leaves.asks.failed)))
+check_answers check a b (Err WriteFault) bytes v there has h calm = absurd (calm (inr h.prints.1))
+check_answers check a b (Err NoMemory) bytes v there has h calm = inr refl

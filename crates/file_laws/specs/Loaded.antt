@@ -1,5 +1,5 @@
 -- Files that a load wrote.
-use Rattle.std.specs.Prelude.{◌≡◌, ℕ, List, Some, Ok}
+use Rattle.std.specs.Prelude.{◌≡◌, ℕ, List, Option, Some, Ok}
 use Rattle.std.specs.Io.KnownBytes.{Appends}
 use Rattle.json_tree.specs.Json.{Json}
 use Rattle.json_documents.specs.Documents.{at_end, HasDocuments}
@@ -11,9 +11,11 @@ use Rattle.command_parsing.specs.Commands.{Load}
 use Rattle.open_group.specs.OpenGroups.{IsSettings}
 use Rattle.store_write.specs.Made.{column_name}
 use Rattle.document_loading.specs.Loading.{Intake, Loads, settings_of}
+use Rattle.document_loading.specs.Taken.{rows_of}
+use Rattle.store_laws.specs.ValidFiles.{IsValid, IsHonest}
 use Rattle.file_answers.specs.Beginning.{Readout}
 
--- its settings are in their ranges, and its schema is that of a text
+-- its settings are those that a writer takes, and its schema is that of a text
 pub record CanLoad (load : Load) : Type 0 where
   pub settings : IsSettings (settings_of load)
   pub schema : HasText load.schema
@@ -43,3 +45,12 @@ pub record GainTheSame (a b c d : Device) : Type 0 where
   pub text : List ℕ
   pub first : Appends a.bytes b.bytes text
   pub second : Appends c.bytes d.bytes text
+
+-- a file is valid and honest, and its rows are all documents of an input, which has no fault
+pub record HoldsAll (files : Option Files) (file input : List ℕ) : Type 0 where
+  pub documents : List Json
+  pub are_all : HasDocuments input documents at_end
+  pub bytes : List ℕ
+  pub there : IsFile files file bytes
+  pub valid : IsValid bytes column_name (rows_of documents)
+  pub honest : IsHonest bytes column_name

@@ -1,6 +1,6 @@
 //! Each law is the contract of an empty function.
 
-ghost use Rattle.std.specs.Prelude.{◌≡◌, ℕ, true, List, length, Option, Some, Result, Ok, Err};
+ghost use Rattle.std.specs.Prelude.{◌≡◌, ◌⊎◌, ℕ, true, List, length, Option, Some, Result, Ok, Err};
 ghost use Rattle.std.specs.Io.KnownBytes.{Appends};
 ghost use Rattle.std.specs.List.{AllByRecursion};
 ghost use Rattle.json_tree.specs.Json.{Json};
@@ -27,15 +27,18 @@ ghost use Rattle.file_answers.specs.Beginning.{Readout, HasFault};
 ghost use Rattle.file_answers.specs.Completing.{IsAnswerable, IsJudgeable, IsDone, QueryViolates, CheckViolates};
 ghost use Rattle.file_answers.specs.Judging.{JudgesFile, IsWhole, count_line};
 ghost use Rattle.file_answers.specs.declared.file_error.FileError.{FileError};
-ghost use Rattle.file_answers.specs.declared.file_error.FileError.TheVariants.{Violated};
+ghost use Rattle.file_answers.specs.declared.file_error.FileError.TheVariants.{Violated, NoMemory};
 ghost use Rattle.document_loading.specs.Loading.{Intake, settings_of};
 ghost use Rattle.document_loading.specs.Taken.{rows_of};
 ghost use Rattle.variant_store.specs.Answer.{answer_over};
 ghost use Rattle.variant_store.specs.Stream.{scan};
 ghost use Rattle.variant_store.specs.Streaming.{Streams};
-ghost use Rattle.variant_store.specs.World.{Pipe};
+ghost use Rattle.variant_store.specs.World.{World, Pipe, pipe_in, intake_in, readout_in};
+ghost use Rattle.variant_store.specs.Commands.{prints, loads, queries, checks, AskFor};
+ghost use Rattle.variant_store.specs.Top.{Works};
+ghost use Rattle.shelf.specs.Storage.{Files};
 ghost use Rattle.file_laws.specs.Begun.{IsBegunFrom, CanBegin};
-ghost use Rattle.file_laws.specs.Loaded.{CanLoad, IsLoaded, FollowsLoad, OfDocuments, GainTheSame};
+ghost use Rattle.file_laws.specs.Loaded.{CanLoad, IsLoaded, FollowsLoad, OfDocuments, GainTheSame, HoldsAll};
 
 /// What is seen of a file goes by its bytes and the name of its column alone: files that were begun from the same bytes, at
 /// the column of one name, have the same groups, rows and lines, and where they have one name the same ranges are asked
@@ -47,8 +50,9 @@ pub fn bytes_decide_what_is_seen()
     ensures plan { (column bytes : List ℕ) (f g : StoreFile) → IsBegunFrom column bytes f → IsBegunFrom column bytes g → f.name ≡ g.name → plan_of f (groups_in f) ≡ plan_of g (groups_in g) }
 {}
 
-/// A file has one first violation at most, and a query and a check find the same. A call that answers a violation answers
-/// it, and no call on such a file is done.
+/// A file has one first violation at a column at most, and a query and a check of that column find the same. A call that
+/// answers a violation answers it, and no call on such a file is done: where no device fails it answers the violation, or
+/// has no memory.
 pub fn violations_are_one()
     ensures query_one { (query : FileQuery) (bytes : List ℕ) (v w : Violation) → QueryViolates query bytes v → QueryViolates query bytes w → v ≡ w }
     ensures check_one { (check : CheckGiven) (bytes : List ℕ) (v w : Violation) → CheckViolates check bytes v → CheckViolates check bytes w → v ≡ w }
@@ -57,6 +61,8 @@ pub fn violations_are_one()
     ensures check_names { (check : CheckGiven) (before after : Readout) (bytes : List ℕ) (v : Violation) → IsFile before.shelf.files check.file bytes → JudgesFile check before after (Err (Violated v)) → CheckViolates check bytes v }
     ensures query_not_done { (query : FileQuery) (before after : Readout) (bytes : List ℕ) (v : Violation) → IsFile before.shelf.files query.file bytes → QueryViolates query bytes v → AnswersQuery query before after (Ok tt) → ⊥ }
     ensures check_not_done { (check : CheckGiven) (before after : Readout) (bytes : List ℕ) (v : Violation) → IsFile before.shelf.files check.file bytes → CheckViolates check bytes v → JudgesFile check before after (Ok tt) → ⊥ }
+    ensures query_answers { (query : FileQuery) (before after : Readout) (done : Result (Unit {0}) FileError) (bytes : List ℕ) (v : Violation) → IsFile before.shelf.files query.file bytes → QueryViolates query bytes v → AnswersQuery query before after done → (HasFault before after → ⊥) → (done ≡ Err (Violated v)) ⊎ (done ≡ Err NoMemory) }
+    ensures check_answers { (check : CheckGiven) (before after : Readout) (done : Result (Unit {0}) FileError) (bytes : List ℕ) (v : Violation) → IsFile before.shelf.files check.file bytes → CheckViolates check bytes v → JudgesFile check before after done → (HasFault before after → ⊥) → (done ≡ Err (Violated v)) ⊎ (done ≡ Err NoMemory) }
 {}
 
 /// A valid file can be begun, and its rows are seen to their end. A query over it has nothing to refuse, nor has a check,
@@ -82,15 +88,25 @@ pub fn made_files_are_seen()
     ensures judgeable { (settings : Settings) (text : List ℕ) (n : Group) (rows : List (Option Json)) (file : List ℕ) → IsSettings settings → IsSchema text n → AllByRecursion (IsDocument true) rows → made settings n rows ≡ Ok file → (check : CheckGiven) (before : Readout) → check.column ≡ column_name → IsFile before.shelf.files check.file file → IsJudgeable check before }
 {}
 
+/// A call of the program that ends at 0 did what its words ask for.
+pub fn calls_do_their_words()
+    ensures load { (words : List (List ℕ)) (load : Load) (before after : World) (input : List ℕ) (files : Files) → AskFor words (loads load) → Works words before after (Ok tt) → before.input.bytes ≡ Some input → before.shelf.files ≡ Some files → CanLoad load → IsLoaded load input (intake_in before) (intake_in after) }
+    ensures query { (words : List (List ℕ)) (query : FileQuery) (before after : World) → AskFor words (queries query) → Works words before after (Ok tt) → AnswersQuery query (readout_in before) (readout_in after) (Ok tt) }
+    ensures check { (words : List (List ℕ)) (check : CheckGiven) (before after : World) → AskFor words (checks check) → Works words before after (Ok tt) → JudgesFile check (readout_in before) (readout_in after) (Ok tt) }
+    ensures scan { (words : List (List ℕ)) (asked : Asked) (before after : World) → AskFor words (prints (scan asked)) → Works words before after (Ok tt) → Streams (scan asked) (pipe_in before) (pipe_in after) (Ok tt) }
+{}
+
 /// What words ask a load to write can be written.
 pub fn asked_loads_can_be_written()
     ensures { (words : List (List ℕ)) (load : Load) → AskLoad words load → CanLoad load }
 {}
 
-/// A query over a file that was loaded prints what `scan` prints of the same documents, in order, and a check counts them.
+/// A file that was loaded is valid and honest, and its rows are the documents of the input. A query over it prints what
+/// `scan` prints of these documents, in order, and a check counts them.
 /// Where no device fails each is done, or has no memory. Of the files this one alone has to be as the load left it.
 pub fn loaded_documents_are_answered()
     ensures same_words { (asked : Asked) (documents : List Json) → answer_of asked (rows_of documents) ≡ answer_over (scan asked) documents }
+    ensures holds { (load : Load) (input : List ℕ) (before after : Intake) → IsLoaded load input before after → HoldsAll after.shelf.files load.out input }
     ensures query { (load : Load) (input : List ℕ) (before after : Intake) (query : FileQuery) (from to : Readout) → IsLoaded load input before after → FollowsLoad load after query.file query.column from → AnswersQuery query from to (Ok tt) → OfDocuments input (λ documents. Appends from.out.bytes to.out.bytes (answer_over (scan query.asked) documents)) }
     ensures as_scan { (load : Load) (input : List ℕ) (before after : Intake) (query : FileQuery) (from to : Readout) (p q : Pipe) → IsLoaded load input before after → FollowsLoad load after query.file query.column from → AnswersQuery query from to (Ok tt) → p.input.bytes ≡ Some input → Streams (scan query.asked) p q (Ok tt) → GainTheSame from.out to.out p.out q.out }
     ensures answered { (load : Load) (input : List ℕ) (before after : Intake) (query : FileQuery) (from to : Readout) (done : Result (Unit {0}) FileError) → IsLoaded load input before after → FollowsLoad load after query.file query.column from → AnswersQuery query from to done → (HasFault from to → ⊥) → IsDone done }

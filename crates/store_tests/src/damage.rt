@@ -156,10 +156,10 @@ fn random_bytes(alloc: Global, count: usize, draws: &mut Draws) -> Result<Vec<u8
     Ok(bytes)
 }
 
-// Random bytes between both magic numbers, of which some are the footer.
+// Random bytes between both magic numbers, and the length of a footer that they may have.
 fn random_file(alloc: Global, draws: &mut Draws) -> Result<Vec<u8>, NoMemory> {
     let count = draws.below(300);
-    let footer = draws.below(count.saturating_add(1)) as u32;
+    let footer = u32::from(draws.byte());
     let inner = random_bytes(alloc, count, draws)?;
     let mut bytes = Vec::from_slice(alloc, b"PAR1")?;
     bytes.extend_from_slice(inner.as_slice())?;

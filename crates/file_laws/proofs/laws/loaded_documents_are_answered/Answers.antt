@@ -1,8 +1,11 @@
-use Rattle.file_laws.proofs.LoadedFiles.{answers_over, loaded_answers, loaded_scans, loaded_done, loaded_checks, loaded_judged}
+use Rattle.file_laws.proofs.LoadedFiles.{answers_over, loaded_holds, loaded_answers, loaded_scans, loaded_done, loaded_checks, loaded_judged}
 use Rattle.file_laws.proofs.laws.loaded_documents_are_answered.Goals as goal
 
 pub returns-clause-same_words : goal.returns-clause-same_words
 returns-clause-same_words c = answers_over
+
+pub returns-clause-holds : goal.returns-clause-holds
+returns-clause-holds c = loaded_holds
 
 pub returns-clause-query : goal.returns-clause-query
 returns-clause-query c = λ load input before after query from to loaded. loaded_answers load input before after loaded query from to

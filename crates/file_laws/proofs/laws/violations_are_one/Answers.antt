@@ -1,4 +1,4 @@
-use Rattle.file_laws.proofs.OneViolation.{query_one, check_one, found_alike, query_names, check_names, query_not_done, check_not_done}
+use Rattle.file_laws.proofs.OneViolation.{query_one, check_one, found_alike, query_names, check_names, query_not_done, check_not_done, query_answers, check_answers}
 use Rattle.file_laws.proofs.laws.violations_are_one.Goals as goal
 
 pub returns-clause-query_one : goal.returns-clause-query_one
@@ -21,3 +21,9 @@ returns-clause-query_not_done c = query_not_done
 
 pub returns-clause-check_not_done : goal.returns-clause-check_not_done
 returns-clause-check_not_done c = check_not_done
+
+pub returns-clause-query_answers : goal.returns-clause-query_answers
+returns-clause-query_answers c = query_answers
+
+pub returns-clause-check_answers : goal.returns-clause-check_answers
+returns-clause-check_answers c = check_answers
