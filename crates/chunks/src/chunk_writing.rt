@@ -49,5 +49,5 @@ pub fn write_chunk(
     while at < entries.len() {
         at += append_page(&mut bytes, alloc, leaf, &entries[at..], page_bytes)?;
     }
-    Ok(Bytes::from_vec(bytes))
+    Bytes::from_vec(alloc, bytes)
 }

@@ -29,7 +29,7 @@ fn present(alloc: Global, node: &Node, tree: &Tree, widths: Widths) -> Result<Ro
     names.write(&mut meta, widths.offset)?;
     let rec = shred(alloc, node, tree, &names, widths)?;
     Ok(RowRecord::Present {
-        meta: Bytes::from_vec(meta),
+        meta: Bytes::from_vec(alloc, meta)?,
         rec,
     })
 }

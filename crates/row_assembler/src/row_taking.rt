@@ -71,7 +71,7 @@ fn take_present(
     ensures read { Reads row_rec_of result (present_kept meta (group_of node.now) def (heads 0 cursors.old)) }
     ensures passed { IfOk result (λ row. Passed cursors.old cursors.new 0 (length cursors.old) 0) }
 {
-    let bytes = take_meta(alloc, cursors, meta, def)?;
+    let bytes = take_meta(cursors, meta, def)?;
     let first = meta_width(meta);
     let levels = Levels {
         rep: 0,
@@ -93,19 +93,14 @@ fn meta_width(meta: bool) -> usize
 }
 
 /// Takes the metadata of a row, if it is read.
-fn take_meta(
-    alloc: Global,
-    cursors: &mut [Cursor],
-    meta: bool,
-    def: u16,
-) -> Result<Bytes, Refused<Absent>>
+fn take_meta(cursors: &mut [Cursor], meta: bool, def: u16) -> Result<Bytes, Refused<Absent>>
     requires inside { meta_width meta ≤ length cursors.old }
     requires level { def ≤ 1 }
     ensures read { Reads (λ bytes. bytes) result (meta_read meta 0 def (heads 0 cursors.old 0)) }
     ensures passed { IfOk result (λ bytes. Passed cursors.old cursors.new 0 (meta_width meta) 0) }
 {
     if !meta {
-        return Ok(Bytes::from_vec(Vec::new(alloc)));
+        return Ok(Bytes::new());
     }
     match take_value(cursors, 0, Slot::Required, 0, 0, def) {
         Some(Some(bytes)) => Ok(bytes),

@@ -33,7 +33,7 @@ pub(crate) fn whole_left(
     let mut bytes = Vec::new(alloc);
     encode(&mut bytes, dict, tree, widths)?;
     Ok(Record {
-        value: Some(Bytes::from_vec(bytes)),
+        value: Some(Bytes::from_vec(alloc, bytes)?),
         typed: None,
     })
 }
@@ -96,5 +96,5 @@ pub(crate) fn members_left(
     }
     let mut bytes = Vec::new(alloc);
     encode_members(&mut bytes, dict, members, kept.as_slice(), widths)?;
-    Ok(Some(Bytes::from_vec(bytes)))
+    Ok(Some(Bytes::from_vec(alloc, bytes)?))
 }

@@ -36,7 +36,10 @@ pub(crate) fn fetch<S: Shelf>(
 {
     match zeros(alloc, size) {
         Ok(mut bytes) => match shelf.read_at(name, at, &mut bytes) {
-            Ok(()) => Ok(Bytes::from_vec(bytes)),
+            Ok(()) => match Bytes::from_vec(alloc, bytes) {
+                Ok(bytes) => Ok(bytes),
+                Err(NoMemory) => Err(FetchError::NoMemory),
+            },
             Err(ShelfError::NoMemory) => Err(FetchError::NoMemory),
             Err(ShelfError::Failed) => Err(FetchError::Failed),
             Err(ShelfError::Absent) => Err(FetchError::Failed),

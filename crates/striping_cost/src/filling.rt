@@ -20,7 +20,7 @@ pub(crate) fn filled(alloc: Global, node: &Node) -> Result<Record, NoMemory>
     ensures { IfOk result (λ made. IsOf (group_of node.now) (rec_of made)) }
 {
     let value = match node.value {
-        Slot::Required => Some(Bytes::from_vec(Vec::new(alloc))),
+        Slot::Required => Some(Bytes::new()),
         _ => None,
     };
     let typed = filled_part(alloc, &node.typed)?;

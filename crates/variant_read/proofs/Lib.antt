@@ -6,7 +6,6 @@ pub mod Made
 pub mod Members
 pub mod Rooms
 pub mod Samples
-pub mod Texts
 pub mod Unscaleds
 pub mod Viewed
 pub mod Walk

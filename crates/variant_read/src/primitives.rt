@@ -71,18 +71,6 @@ fn wide_decimal(bytes: &[u8]) -> Result<usize, Rule>
     Ok(18)
 }
 
-// Whether bytes are UTF-8. Most texts are ASCII, which is told sooner.
-#[inline(always)]
-#[tactic(auto, using(crate::proofs::Texts::ascii_is_utf8))]
-fn is_text(bytes: &[u8]) -> bool
-    ensures { result ≡ is_utf8 bytes.now }
-{
-    if bytes.is_ascii() {
-        return true;
-    }
-    is_utf8(bytes)
-}
-
 #[inline(always)]
 #[tactic(auto, unfolding(crate::specs::Primitives::text_at))]
 fn text(bytes: &[u8], at: usize, len: usize) -> Result<usize, Rule>
@@ -93,7 +81,7 @@ fn text(bytes: &[u8], at: usize, len: usize) -> Result<usize, Rule>
     let Some(text) = cut(bytes, at, len) else {
         return Err(Rule::ValueShort);
     };
-    if is_text(text) {
+    if is_utf8(text) {
         Ok(at + len)
     } else {
         Err(Rule::TextUtf8)

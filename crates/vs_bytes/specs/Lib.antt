@@ -1,3 +1,4 @@
+pub mod HeldBytes
 pub mod HeldText
 pub mod Hex
 pub mod Names

@@ -1,46 +1,91 @@
 //! Owned bytes.
 
-ghost use Rattle.std.specs.Prelude.{◌≡◌, IfOk};
+ghost use Rattle.std.specs.Prelude.{◌≡◌, ◌≤◌, [], length, IfOk};
 
 use crate::memory::NoMemory;
+use crate::short_bytes::{SHORT, ShortBytes};
 use std::alloc::Global;
 use std::marker::Model;
 
+// Most cells are short. The vector lies in a box, so that the cells of short bytes stay small.
+#[derive(Debug, Drop)]
+pub(crate) enum HeldBytes {
+    Short(ShortBytes),
+    Long(Box<Vec<u8>>),
+}
+
 /// Owned bytes, which contracts see as their list.
+///
+/// At most 22 of them take no allocation.
 #[derive(Debug, Drop)]
 pub struct Bytes {
-    bytes: Vec<u8>,
+    held: HeldBytes,
 }
+
+// Entries and records hold one of these for each cell.
+const _: () = prove!(size_of::<Bytes>() == 24);
 
 impl Model for Bytes {
     ghost use Rattle.std.specs.Prelude.{List, ℕ};
+    ghost use Rattle.vs_bytes.specs.HeldBytes.{bytes_of};
 
     ghost Value = { List ℕ };
 
-    ghost view = { λ b. b.bytes.items };
+    ghost view = { λ b. bytes_of b.held };
 }
 
 impl Bytes {
+    /// No bytes.
+    pub fn new() -> Bytes
+        ensures { result ≡ [] }
+    {
+        Bytes::short(&[])
+    }
+
     /// A copy of `bytes`.
     pub fn from_slice(alloc: Global, bytes: &[u8]) -> Result<Bytes, NoMemory>
         ensures { IfOk result (λ b. b ≡ bytes.now) }
     {
-        Ok(Bytes {
-            bytes: Vec::from_slice(alloc, bytes)?,
-        })
+        if bytes.len() <= SHORT {
+            return Ok(Bytes::short(bytes));
+        }
+        Bytes::long(alloc, Vec::from_slice(alloc, bytes)?)
     }
 
     /// The bytes of a vector, which it takes over.
-    pub fn from_vec(bytes: Vec<u8>) -> Bytes
-        ensures { result ≡ bytes.items }
+    pub fn from_vec(alloc: Global, bytes: Vec<u8>) -> Result<Bytes, NoMemory>
+        ensures { IfOk result (λ b. b ≡ bytes.items) }
     {
-        Bytes { bytes }
+        if bytes.len() <= SHORT {
+            return Ok(Bytes::short(bytes.as_slice()));
+        }
+        Bytes::long(alloc, bytes)
+    }
+
+    fn short(bytes: &[u8]) -> Bytes
+        requires { length bytes.now ≤ 22 }
+        ensures { result ≡ bytes.now }
+    {
+        Bytes {
+            held: HeldBytes::Short(ShortBytes::from_slice(bytes)),
+        }
+    }
+
+    fn long(alloc: Global, bytes: Vec<u8>) -> Result<Bytes, NoMemory>
+        ensures { IfOk result (λ b. b ≡ bytes.items) }
+    {
+        Ok(Bytes {
+            held: HeldBytes::Long(Box::new(alloc, bytes)?),
+        })
     }
 
     /// The bytes in place.
     pub fn as_slice(&self) -> &[u8]
         ensures { result.now ≡ self.now }
     {
-        self.bytes.as_slice()
+        match &self.held {
+            HeldBytes::Short(bytes) => bytes.as_slice(),
+            HeldBytes::Long(bytes) => bytes.as_slice(),
+        }
     }
 }

@@ -11,6 +11,7 @@
 //! | `rule` | `Rule`: what a malformed file violates, and its printed name |
 //! | `utf8_text` | `Text`: UTF-8 text, seen as its bytes and ordered by them; `is_utf8`: whether bytes are UTF-8 |
 //! | `byte_list` | `Bytes`: owned bytes, seen as their list |
+//! | `short_bytes` | bytes that lie in the value itself |
 //! | `sequence` | `Sequence`: items in order, seen as their list |
 //! | `leaf_columns` | `Phys`, `Prim`, `Leaf`: leaf columns; `Cell`, `Entry`: what they hold; lists of both |
 //! | `slices` | `cut`, `part`, `rest`: parts of a byte slice |
@@ -26,6 +27,7 @@ mod memory;
 mod refused;
 mod rule;
 mod sequence;
+mod short_bytes;
 mod slices;
 mod utf8_text;
 

@@ -102,10 +102,14 @@ impl Text {
 }
 
 /// Whether bytes are UTF-8.
-#[tactic(auto, using(crate::proofs::Utf8::is_text, crate::proofs::Utf8::no_text))]
+#[tactic(auto, using(crate::proofs::Utf8::ascii_is_text, crate::proofs::Utf8::is_text, crate::proofs::Utf8::no_text))]
 pub fn is_utf8(bytes: &[u8]) -> bool
     ensures { result ≡ is_utf8 bytes.now }
 {
+    // Most texts are ASCII, which is told sooner.
+    if bytes.is_ascii() {
+        return true;
+    }
     match std::str::from_utf8(bytes) {
         Ok(_) => true,
         Err(_) => false,
