@@ -1,5 +1,5 @@
 //! Entries that are written as text: the repetition level, the definition level and the value, if there is one, with
-//! commas between them. A value is hex digits, or a number behind `#`.
+//! commas between them. A value is hex digits, or a number after `#`.
 
 use std::alloc::Global;
 use test_rows::{Wrong, bytes_of, number_of};

@@ -87,7 +87,7 @@ pub(crate) fn feed_leaves(
     Ok(())
 }
 
-/// Puts the rows that are there behind others, and then `waits`, or the rule that is violated.
+/// Puts the rows that are there after others, and then `waits`, or the rule that is violated.
 pub(crate) fn push_rows(
     alloc: Global,
     text: &mut String,

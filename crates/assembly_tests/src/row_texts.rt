@@ -46,7 +46,7 @@ fn push_records(alloc: Global, text: &mut String, records: &[Record]) -> Result<
     Ok(())
 }
 
-/// Puts a row behind others.
+/// Puts a row after others.
 pub(crate) fn push_row(
     alloc: Global,
     text: &mut String,

@@ -21,7 +21,7 @@ fields_some last no_fields = omega arith
 fields_some last (with_field id v fs) =
     omega (arith, fields_some (unsigned_abs id) fs, length-append (field_bytes last (unsigned_abs id) (kind_of v)) (coded v ++ fields_coded (unsigned_abs id) fs), length-append (coded v) (fields_coded (unsigned_abs id) fs))
 
--- a value takes no more than its struct, and neither do the fields behind it
+-- a value takes no more than its struct, and neither do the fields after it
 value_within : (last : ℕ) (id : ℤ) (v : Value) (fs : Fields) → length (coded v) + length (fields_coded (unsigned_abs id) fs) ≤ length (fields_coded last (with_field id v fs))
 unfolding fields_coded
 value_within last id v fs =

@@ -36,7 +36,7 @@ file_meta schema orders groups = record {
 abbrev pub group_meta : List ChunkMeta → ℕ → ℕ → GroupMeta
 group_meta columns size rows = record { columns = columns; total_byte_size = pos size; num_rows = pos rows }
 
--- what the writer of a file keeps of its closed groups, and the place behind them
+-- what the writer of a file keeps of its closed groups, and the place after them
 pub record Closed : Type 0 where
   pub schema : List SchemaElement
   pub orders : List ℤ

@@ -57,7 +57,7 @@ fn group_len(alloc: Global, group: &GroupMeta) -> Result<usize, NoMemory>
     Ok(bytes.len())
 }
 
-// Puts a group behind the others, of which the file has `before` rows and the footer `coded` bytes, if the footer isn't
+// Puts a group after the others, of which the file has `before` rows and the footer `coded` bytes, if the footer isn't
 // too long with it. Else nothing changes.
 fn put_group(
     alloc: Global,
@@ -128,7 +128,7 @@ impl Model for ClosedGroups {
 }
 
 impl ClosedGroups {
-    /// No groups: the first one begins behind the magic number. `orders` are the orders of the leaves, as in
+    /// No groups: the first one begins after the magic number. `orders` are the orders of the leaves, as in
     /// `FileMeta`.
     pub fn new(
         alloc: Global,
@@ -156,7 +156,7 @@ impl ClosedGroups {
         })
     }
 
-    /// The place behind the last group.
+    /// The place after the last group.
     pub fn place(&self) -> u64
         ensures place { result ≡ self.now.place }
         ensures low { result < 2 ^ 62 }
@@ -164,7 +164,7 @@ impl ClosedGroups {
         self.place
     }
 
-    /// Puts a group behind the others: the structs of its chunks, which have `size` bytes, and how many rows it has.
+    /// Puts a group after the others: the structs of its chunks, which have `size` bytes, and how many rows it has.
     /// It isn't put there where the footer would be longer than 67,108,864 bytes.
     pub fn close(&mut self, columns: ChunkList, size: u64, rows: u64) -> Result<(), Unclosed>
         requires fits { ListFits ChunkFits columns }

@@ -1,5 +1,5 @@
 //! The row groups of a file that are closed, as the writer of the file keeps them: their structs for the footer, and
-//! the place behind their bytes.
+//! the place after their bytes.
 //!
 //! | Module | What it holds |
 //! |---|---|

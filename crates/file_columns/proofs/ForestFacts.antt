@@ -15,7 +15,7 @@ pub flat_forest : (es : List SchemaElement) → flat (forest es) ≡ es
 flat_forest [] = refl
 flat_forest (e ∷ es) = ap (λ (xs : List SchemaElement). e ∷ xs) (flat_front (child_count e) (forest es) ∙ flat_forest es)
 
--- trees with others behind them
+-- trees with others after them
 abbrev pub behind : Forest → Forest → Forest
 behind no_trees g = g
 behind (tree e inside next) g = tree e inside (behind next g)

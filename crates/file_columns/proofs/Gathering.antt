@@ -22,7 +22,7 @@ onto_none : (fs : List (List ℕ × Group)) → onto fs no_groups ≡ groups_fro
 onto_none [] = refl
 onto_none (f ∷ fs) = ap (field f.0 f.1) (onto_none fs)
 
--- fields and leaves in front of those that are read behind them
+-- fields and leaves in front of those that are read after them
 abbrev pub before : List (List ℕ × Group) → List PlacedLeaf → Option (Groups × List PlacedLeaf) → Option (Groups × List PlacedLeaf)
 before fs ls None = None
 before fs ls (Some p) = Some (onto fs p.0, ls ++ p.1)

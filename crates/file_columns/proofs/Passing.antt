@@ -8,7 +8,7 @@ use Rattle.schema_elements.specs.SchemaTrees.{own_leaf}
 use Rattle.file_columns.specs.Forests.{Forest, no_trees, tree, front, back, forest, leaf_count}
 use Rattle.file_columns.specs.Columns.{PlacedElement, children, named}
 
--- the trees behind k trees and m more
+-- the trees after k trees and m more
 back_none : (m : ℕ) → back m no_trees ≡ no_trees
 back_none zero = refl
 back_none (suc m) = refl
@@ -42,7 +42,7 @@ count_step e es (suc m) h =
     let is : leaf_count (front (child_count e + m) (forest es)) ≡ leaf_count (front (child_count e) (forest es)) + leaf_count (front m (back (child_count e) (forest es))) = count_front m (child_count e) (forest es) in
     omega (arith, is, ap (λ n. leaf_count (front n (forest es))) to)
 
--- where a walk over `count` trees stands: `left` trees are ahead in `rest`, and `leaves` leaves behind it
+-- where a walk over `count` trees stands: `left` trees are ahead in `rest`, and `leaves` leaves after it
 pub record IsPassed (ahead rest : List SchemaElement) (count left leaves : ℕ) : Type 0 where
   pub trees : back left (forest rest) ≡ back count (forest ahead)
   pub counts : leaves + leaf_count (front left (forest rest)) ≡ leaf_count (front count (forest ahead))

@@ -14,7 +14,7 @@ abbrev pub flat : Forest → List SchemaElement
 flat no_trees = []
 flat (tree e inside next) = e ∷ (flat inside ++ flat next)
 
--- the first n trees, and those behind them
+-- the first n trees, and those after them
 abbrev pub front : ℕ → Forest → Forest
 front zero f = no_trees
 front (suc n) no_trees = no_trees
@@ -25,7 +25,7 @@ back zero f = f
 back (suc n) no_trees = no_trees
 back (suc n) (tree e inside next) = back n next
 
--- an element takes the first trees of those behind it
+-- an element takes the first trees of those after it
 abbrev pub planted : SchemaElement → Forest → Forest
 planted e f = tree e (front (child_count e) f) (back (child_count e) f)
 
@@ -38,7 +38,7 @@ abbrev pub leaf_count : Forest → ℕ
 leaf_count no_trees = 0
 leaf_count (tree e inside next) = own_leaf e + leaf_count inside + leaf_count next
 
--- how many trees there are, and trees behind others
+-- how many trees there are, and trees after others
 abbrev pub tree_count : Forest → ℕ
 tree_count no_trees = 0
 tree_count (tree e inside next) = suc (tree_count next)

@@ -72,7 +72,7 @@ impl Shown for Footers {
     }
 }
 
-// A file without rows and with a column of Variants; one leaf and no groups, with bytes behind; two groups of two rows;
+// A file without rows and with a column of Variants; one leaf and no groups, with bytes after them; two groups of two rows;
 // orders, of which the second isn't known; a group with fields 5 to 7; a leaf and a group of FIXED_LEN_BYTE_ARRAY (7).
 const GOOD: &str =
     "15 02 19 4c 48 06 73 63 68 65 6d 61 15 02 00 35 02 18 03 64 6f 63 15 04 5c 0c 20 13 01 00 00 00 15 0c 25 00 18 08 6d 65 74 61 64 61 74 61 00 15 0c 25 00 18 05 76 61 6c 75 65 00 16 00 19 0c 28 08 76 73 74 6f 72 65 20 31 19 2c 1c 00 00 1c 00 00 00 | 1 schema - - - 1 - - - -; doc - - 1 2 - - - 16:1:-; metadata 6 - 0 - - - - -; value 6 - 0 - - - - -; 0 rows  by 7673746f72652031 in 11

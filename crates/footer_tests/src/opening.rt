@@ -62,7 +62,7 @@ impl Shown for Files {
     }
 }
 
-// A footer of 15 bytes behind the magic number, and behind two bytes of pages; another name; 11 bytes; no footer between
+// A footer of 15 bytes after the magic number, and after two bytes of pages; another name; 11 bytes; no footer between
 // the ends; a footer of one byte.
 const FILES: &str =
     "a | 9 | 50415231 1502191c1502380161001600190c00 0f000000 50415231 | 27 bytes, footer at 4, 0 rows: (19 8) (0 4) (4 15)

@@ -31,7 +31,7 @@ pub record StandsFor (optional : Bool) (n : Group) (mask : List Bool) (g : Group
   pub rows : (j : ℕ) → is_among j 0 (1 + width n) ≡ true → reads mask j ≡ true → has_rows g.left (left g.assembler j) ≡ true
   pub counted : g.row + g.left < 2 ^ 64
 
--- a leaf's entries were put behind those that are left, where the leaf is read
+-- a leaf's entries were put after those that are left, where the leaf is read
 pub record FedLeaf (mask : List Bool) (a b : Assembly) (leaf : ℕ) (entries : List Entry) : Type 0 where
   pub here : reads mask leaf ≡ true → left b leaf ≡ left a leaf ++ entries
   pub others : (j : ℕ) → (j == leaf) ≡ false → left b j ≡ left a j
@@ -54,7 +54,7 @@ pub record IsEnd (optional : Bool) (n : Group) (mask : List Bool) (old new : Gro
   pub none : rows_ahead (reads mask) optional n old ≡ Ok []
   pub same : new ≡ old
 
--- a row, and those behind it
+-- a row, and those after it
 pub record GivesRow (optional : Bool) (n : Group) (mask : List Bool) (old new : GroupRows) (row : Option Json) : Type 0 where
   pub ahead : rows_ahead (reads mask) optional n old ≡ with_row row (rows_ahead (reads mask) optional n new)
   pub stands : StandsFor optional n mask new

@@ -21,12 +21,12 @@ use store_read::read_group;
 use thrift_structs::{ChunkMeta, ColumnMeta};
 use vs_bytes::{Bytes, NoMemory, Sequence, Text};
 
-// The place of the metadata's chunk, and of the values' chunk behind it.
+// The place of the metadata's chunk, and of the values' chunk after it.
 const METADATA_PLACE: i64 = 4;
 
 const VALUES_PLACE: i64 = 34;
 
-// The place behind both chunks.
+// The place after both chunks.
 const FOOTER_PLACE: u64 = 62;
 
 fn chunk(alloc: Global, place: i64, size: i64) -> Result<ChunkMeta, NoMemory> {

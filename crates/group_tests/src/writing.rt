@@ -28,7 +28,7 @@ fn paths(alloc: Global) -> Result<Sequence<SchemaPath>, NoMemory>
     Ok(paths)
 }
 
-// The two rows, in a group that begins behind the magic number.
+// The two rows, in a group that begins after the magic number.
 #[tactic(auto, using(crate::proofs::TwoRows::rows_are_group, crate::proofs::TwoRows::well_formed))]
 fn written(alloc: Global) -> Result<WrittenGroup, NoMemory> {
     let column = column();

@@ -17,7 +17,7 @@ use Rattle.group_writing.specs.GroupChunks.{Path, chunk_meta, chunks_from, metas
 abbrev pub no_leaf : Leaf
 no_leaf = record { rep = 0; def = 0; phys = phys.Boolean; prim = prim.Raw }
 
--- an item and those behind it
+-- an item and those after it
 from_here : {A : Type 0} (xs : List A) (j : ℕ) (d : A) → j < length xs → drop j xs ≡ get_or xs j d ∷ drop (j + 1) xs
 from_here xs j d h = drop-cons xs j d h ∙ ap (λ n. get_or xs j d ∷ drop n xs) (sym (add-one j))
 

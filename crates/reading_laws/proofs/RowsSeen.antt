@@ -12,7 +12,7 @@ use Rattle.group_reading.specs.GroupRows.{at_place, or_mismatch, next_seen, rows
 use Rattle.group_reading.specs.declared.group_faults.PlaceInGroup.TheVariants as place
 use Rattle.reading_laws.specs.RowsMeant.{rows_meant}
 
--- an item and those behind it, both of which are read
+-- an item and those after it, both of which are read
 record BothRead {A : Type 0} (x : Option A) (xs : Option (List A)) (y : A) (ys : List A) : Type 0 where
   first : x ≡ Some y
   rest : xs ≡ Some ys

@@ -26,7 +26,7 @@ passed_both a b c k x y m p q = record {
   each = λ j. q.each j ∙ (taken_once m (is_among j k x) (is_among j (k + x) y) _ _ (p.each j) (left_only j k x y) ∙ ap (λ (b : Bool). cond b (later_items m (slice_index_or a j [])) (slice_index_or a j [])) (sym (both_parts j k x y)));
 }
 
--- what is passed of the leaves in front leaves those behind as they were
+-- what is passed of the leaves in front leaves those after them as they were
 pub stays : (m : ℕ) (p : Bool) (es fs : List Entry) → p ≡ false → fs ≡ cond p (later_items m es) es → fs ≡ es
 stays m true es fs e is = cc
 stays m false es fs e is = is

@@ -104,7 +104,7 @@ pub before_none : (xs : List Rec) → before xs no_recs ≡ recs_from xs
 before_none [] = refl
 before_none (x ∷ xs) = ap (recs x) (before_none xs)
 
--- what is read of the fields that are left, behind the records of those in front
+-- what is read of the fields that are left, after the records of those in front
 abbrev pub fields_left : List Record → List (List ℕ × Node) → ℕ → ℕ → ℕ → ℕ → (ℕ → List Entry) → Option Recs
 fields_left taken left k r m d es = option_map (λ rest. before (map rec_of taken) rest) (fields_read (groups_from (map named left)) k every r m d es)
 

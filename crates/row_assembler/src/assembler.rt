@@ -71,7 +71,7 @@ impl Assembler {
         })
     }
 
-    /// Puts entries behind those that are left in a leaf, and moves them: no value is copied. `leaf` is its number in
+    /// Puts entries after those that are left in a leaf, and moves them: no value is copied. `leaf` is its number in
     /// the column. What `more` holds after an `Ok` is open. After an `Err` nothing has changed.
     ///
     /// Nothing else is asked of the entries: `next_row` finds levels and values that no row record has.
@@ -139,7 +139,7 @@ impl Assembler {
     }
 }
 
-// Puts entries behind those of one place.
+// Puts entries after those of one place.
 fn feed_at(
     alloc: Global,
     cursors: &mut [Cursor],

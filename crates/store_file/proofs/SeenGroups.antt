@@ -1,4 +1,4 @@
--- Groups that were seen, and those behind them.
+-- Groups that were seen, and those after them.
 use Rattle.std.proofs.Common.{◌≡◌, ◌∙◌, sym, ap, ℕ, ◌+◌, List, [], ◌∷◌, ◌++◌, length, Option, None, Some, Result, Ok, Err, arith, append_assoc}
 use Rattle.store_file.specs.SeenGroups.{Seen, all_found, with_group, seen_of}
 use Rattle.store_file.specs.declared.file_faults.Violation.{Violation}

@@ -57,7 +57,7 @@ seen_more {A = A} {G = G} gives groups k g done more at seen given =
     ∙ (ap (λ (r : Result (List A) Violation). behind done (with_group r (all_found []))) given
     ∙ ap (λ (found : List A). all_found (done ++ found)) (append-nil more)))
 
--- the group that is next, before those behind it
+-- the group that is next, before those after it
 pub seen_next : {A G : Type 0} (gives : ℕ → G → Result (List A) Violation) (groups : List G) (k : ℕ) (g : G) (done : List A) (given : Result (List A) Violation) → slice_get groups k ≡ Some g → seen_of gives 0 (take k groups) ≡ all_found done → gives k g ≡ given →
     seen_of gives 0 groups ≡ behind done (with_group given (seen_of gives (k + 1) (drop (k + 1) groups)))
 unfolding seen_of
@@ -72,7 +72,7 @@ pub seen_stops : {A G : Type 0} (gives : ℕ → G → Result (List A) Violation
 seen_stops {A = A} gives groups k g done violation at seen is =
     seen_next gives groups k g done (Err violation) at seen is ∙ ap (λ (found : List A). record { found = found; stop = Some violation }) (append-nil done)
 
--- all of it, by what comes behind the first k groups
+-- all of it, by what comes after the first k groups
 pub seen_front : {A G : Type 0} (gives : ℕ → G → Result (List A) Violation) (groups : List G) (k : ℕ) (done : List A) → k ≤ length groups → seen_of gives 0 (take k groups) ≡ all_found done →
     seen_of gives 0 groups ≡ behind done (seen_of gives k (drop k groups))
 seen_front gives groups k done within seen =

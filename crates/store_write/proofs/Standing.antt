@@ -108,7 +108,7 @@ pub footer_same : (s : Settings) (n : Group) (c : Closed) (groups : List GroupMe
 footer_same s n c groups schema orders =
     ap (λ (sch : List SchemaElement). footer_bytes (file_meta sch (orders_of (paths_of n)) groups)) (sym schema) ∙ ap (λ (os : List ℤ). footer_bytes (file_meta c.schema os groups)) (sym orders)
 
--- a group closes behind others
+-- a group closes after others
 pub body_with : (g : Open) (c : Closed) (bytes : List ℕ) (groups : List (List (Option Json))) (group : List (Option Json)) (records : List RowRec)
     → c.schema ≡ schema_of (node_of g) → c.orders ≡ orders_of (paths_of (node_of g)) → g.paths ≡ paths_of (node_of g) → c.place ≡ length bytes
     → body_of (format g.settings (node_of g)) groups ≡ Ok (record { bytes = bytes; metas = c.groups }) → records_of g.settings (node_of g) group ≡ records → footer_size (closed_with g c records) ≤ footer_limit
@@ -130,7 +130,7 @@ body_with g c bytes groups group records schema orders paths place before is sma
     ∙ ap (λ (x : List ℕ). Ok (record { bytes = bytes ++ x; metas = c.groups ++ f.meta (length bytes) group ∷ [] })) chunks
     ∙ ap (λ (ms : List GroupMeta). Ok (record { bytes = bytes ++ concat (chunks_with g records); metas = ms })) metas
 
--- a group doesn't close behind others
+-- a group doesn't close after others
 pub body_long : (g : Open) (c : Closed) (bytes : List ℕ) (groups : List (List (Option Json))) (group : List (Option Json)) (records : List RowRec)
     → c.schema ≡ schema_of (node_of g) → c.orders ≡ orders_of (paths_of (node_of g)) → g.paths ≡ paths_of (node_of g) → c.place ≡ length bytes
     → body_of (format g.settings (node_of g)) groups ≡ Ok (record { bytes = bytes; metas = c.groups }) → records_of g.settings (node_of g) group ≡ records → footer_limit < footer_size (closed_with g c records)

@@ -40,7 +40,7 @@ abbrev pub broken_by : FileWriter → Option First
 broken_by w = w.broken
 
 -- Rows were written by a node and some choices, and so far `bytes` stand in the file: the magic number and the chunks of
--- the groups that close. What is kept is the structs of these groups with the place behind them, and the records of the
+-- the groups that close. What is kept is the structs of these groups with the place after them, and the records of the
 -- rows after them.
 pub record StandsBy (settings : Settings) (n : Group) (g : Open) (c : Closed) (bytes : List ℕ) (rows : List (Option Json)) : Type 0 where
   pub schema : c.schema ≡ schema_of n

@@ -21,7 +21,7 @@ magic = codes "PAR1"
 abbrev pub least_len : ℕ
 least_len = 12
 
--- the footer's length and the magic number behind it
+-- the footer's length and the magic number after it
 abbrev pub tail_len : ℕ
 tail_len = 8
 

@@ -12,7 +12,7 @@ const MAGIC: &[u8; 4] = b"PAR1";
 /// How many bytes the magic number at both ends and the footer's length take.
 pub const LEAST_LEN: u64 = 12;
 
-/// How many bytes the footer's length and the magic number behind it take.
+/// How many bytes the footer's length and the magic number after it take.
 pub const TAIL_LEN: u64 = 8;
 
 // How long a footer may be.
