@@ -14,7 +14,9 @@ use Rattle.footer_structs.specs.FooterWriting.{footer_bytes, group_bytes, GroupF
 use Rattle.footer_structs.specs.ReadFooters.{total_rows}
 use Rattle.footer_structs.specs.declared.row_groups.GroupMeta.{GroupMeta}
 use Rattle.footer_structs.specs.declared.file_metadata.FileMeta.{FileMeta}
-use Rattle.closed_groups.specs.ClosedGroups.{footer_limit, file_meta, group_meta, Closed, meta_of, with_group, Closes, meta_with, PutsGroup, orders_in, IsSound}
+use Rattle.footer_structs.specs.Footers.{orders_in}
+use Rattle.footer_structs.specs.FileEnds.{footer_limit}
+use Rattle.closed_groups.specs.ClosedGroups.{file_meta, group_meta, Closed, meta_of, with_group, Closes, meta_with, PutsGroup, IsSound}
 use Rattle.closed_groups.specs.declared.group_list.Unclosed.{Unclosed}
 use Rattle.closed_groups.specs.declared.group_list.Unclosed.TheVariants.{TooLong, NoMemory}
 use Rattle.closed_groups.proofs.FooterSizes.{group_more, groups_within}

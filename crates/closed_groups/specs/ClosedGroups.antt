@@ -1,25 +1,18 @@
 -- The row groups of a file that are closed: their structs, and where the next one begins.
-use Rattle.std.specs.Prelude.{◌≡◌, ℕ, ◌+◌, ◌*◌, ◌^◌, ◌<◌, ◌≤◌, ℤ, pos, List, [], ◌∷◌, ◌++◌, length, Option, None, Some, Result, Ok, Err, codes, IfSome}
+use Rattle.std.specs.Prelude.{◌≡◌, ℕ, ◌+◌, ◌*◌, ◌^◌, ◌<◌, ◌≤◌, ℤ, pos, List, [], ◌∷◌, ◌++◌, length, Option, None, Some, Result, Ok, Err, IfSome}
 use Rattle.std.specs.List.{AllByRecursion, flat_map}
 use Rattle.vs_bytes.specs.Numbers.{number_bytes}
 use Rattle.thrift_structs.specs.Listed.{ListFits}
 use Rattle.thrift_structs.specs.declared.column_chunks.ChunkMeta.{ChunkMeta}
 use Rattle.schema_elements.specs.ElementWriting.{ElementFits}
 use Rattle.schema_elements.specs.declared.elements.SchemaElement.{SchemaElement}
+use Rattle.footer_structs.specs.FileEnds.{magic, footer_limit}
 use Rattle.footer_structs.specs.FooterWriting.{footer_bytes, group_bytes, GroupFits}
 use Rattle.footer_structs.specs.ReadFooters.{total_rows}
 use Rattle.footer_structs.specs.declared.row_groups.GroupMeta.{GroupMeta}
 use Rattle.footer_structs.specs.declared.file_metadata.FileMeta.{FileMeta}
 use Rattle.closed_groups.specs.declared.group_list.Unclosed.{Unclosed}
 use Rattle.closed_groups.specs.declared.group_list.Unclosed.TheVariants.{TooLong, NoMemory}
-
--- PAR1, the magic number
-abbrev pub magic : List ℕ
-magic = codes "PAR1"
-
--- the longest footer that a group may make, in bytes
-abbrev pub footer_limit : ℕ
-footer_limit = 67108864
 
 -- the metadata of a file with this schema, the orders of its leaves and these groups
 abbrev pub file_meta : List SchemaElement → List ℤ → List GroupMeta → FileMeta
@@ -72,10 +65,6 @@ PutsGroup before after rows group (Err NoMemory) = after ≡ before
 -- the end of a file: the footer, its length in four bytes, and the magic number
 abbrev pub ending_of : List ℕ → List ℕ
 ending_of footer = footer ++ (number_bytes 4 (length footer) ++ magic)
-
-abbrev pub orders_in : Option (List ℤ) → List ℤ
-orders_in None = []
-orders_in (Some orders) = orders
 
 -- what is known of the metadata, of how many bytes its groups have in the footer, and of how many rows the groups have.
 -- A group's bytes in the footer are more than its chunks, each chunk is shorter than 2^30 bytes, and a group has 2^25

@@ -9,14 +9,13 @@ ghost use Rattle.schema_elements.specs.ElementWriting.{ElementFits};
 ghost use Rattle.footer_structs.specs.FooterWriting.{footer_bytes, group_bytes, GroupFits};
 ghost use Rattle.closed_groups.specs.ClosedGroups.{group_meta, meta_of, Closes, PutsGroup, ending_of};
 
-use footer_structs::{ChunkList, FileMeta, GroupMeta, append_group, footer_len, write_footer};
+use footer_structs::{
+    ChunkList, FOOTER_LIMIT, FileMeta, GroupMeta, MAGIC, append_group, footer_len, write_footer,
+};
 use schema_elements::ElementList;
 use std::alloc::Global;
 use std::marker::Model;
 use vs_bytes::{Bytes, NoMemory, Sequence};
-
-/// The longest footer that a group may make, in bytes.
-const FOOTER_LIMIT: usize = 67_108_864;
 
 /// So many bytes are in no memory.
 const MOST_BYTES: usize = 1 << 62;
@@ -113,7 +112,8 @@ pub struct ClosedGroups {
 }
 
 impl Model for ClosedGroups {
-    ghost use Rattle.closed_groups.specs.ClosedGroups.{Closed, IsSound, orders_in};
+    ghost use Rattle.footer_structs.specs.Footers.{orders_in};
+    ghost use Rattle.closed_groups.specs.ClosedGroups.{Closed, IsSound};
 
     ghost Value = { Closed };
 
@@ -209,9 +209,6 @@ impl ClosedGroups {
         Bytes::from_vec(self.alloc, bytes)
     }
 }
-
-/// The magic number.
-const MAGIC: &[u8; 4] = b"PAR1";
 
 // The lowest four bytes of a number, the lowest byte first.
 fn low_bytes(number: usize) -> [u8; 4]

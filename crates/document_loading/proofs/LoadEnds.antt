@@ -15,7 +15,7 @@ use Rattle.striping_laws.specs.Rows.{min_page_bytes}
 use Rattle.shelf.specs.Storage.{Storage, Has, Lacks, with_file, appended, FailsWrite}
 use Rattle.shred_schema.specs.Groups.{Group}
 use Rattle.shelf.proofs.Appending.{has_created, has_appended}
-use Rattle.closed_groups.specs.ClosedGroups.{magic}
+use Rattle.footer_structs.specs.FileEnds.{magic}
 use Rattle.store_write.specs.Cutting.{cut_of}
 use Rattle.store_write.specs.Frames.{body_of, made}
 use Rattle.store_write.specs.Made as written

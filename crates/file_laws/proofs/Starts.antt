@@ -5,8 +5,7 @@ use Rattle.json_tree.specs.Json.{Json}
 use Rattle.vs_bytes.specs.declared.rule.Rule.{Rule}
 use Rattle.file_columns.specs.Columns.{ColumnView, column_of}
 use Rattle.file_columns.specs.Views.{shown}
-use Rattle.closed_groups.specs.ClosedGroups.{orders_in}
-use Rattle.thrift_footer.specs.MetaColumns.{orders_of}
+use Rattle.footer_structs.specs.Footers.{orders_in}
 use Rattle.thrift_footer.specs.declared.opening.Opened.{Opened}
 use Rattle.store_laws.specs.ValidFiles.{IsValid}
 use Rattle.store_file.specs.Beginning.{beginning}
@@ -23,7 +22,7 @@ ok_start a b e = cc
 pub one_start : (column bytes : List ℕ) (s : Start) (f : StoreFile) → IsBegunFrom column bytes f → beginning bytes column ≡ Ok s → s ≡ (f.opened, shown f.column)
 one_start column bytes s f b is = ok_start s (f.opened, shown f.column) (sym is ∙ b.is_of)
 
-same_orders : (orders : Option (List ℤ)) → orders_of orders ≡ orders_in orders
+same_orders : (orders : Option (List ℤ)) → orders_in orders ≡ orders_in orders
 same_orders None = refl
 same_orders (Some orders) = refl
 

@@ -1,5 +1,5 @@
 -- The structs of a footer (parquet.thrift, ColumnOrder, RowGroup, FileMetaData).
-use Rattle.std.specs.Prelude.{ℤ, Option, Some}
+use Rattle.std.specs.Prelude.{List, [], ℤ, Option, Some, None}
 use Rattle.thrift_compact.specs.Trees.{Value, Fields, Shapes, i32s, i64s, binaries, lists, structs, unknown, known}
 use Rattle.thrift_compact.specs.Slots.{◌>>?◌, put_at, required, optional, counted, i32_in, struct_in, read_by}
 use Rattle.thrift_compact.specs.declared.slots.Slot.TheVariants.{Missing}
@@ -24,6 +24,11 @@ order_put d id v = member_at 1 empty_in id v d d
 
 abbrev pub order_of : Fields → Option ℤ
 order_of = read_by order_put none_met member_of
+
+-- the orders of a file's leaves, where they are there
+abbrev pub orders_in : Option (List ℤ) → List ℤ
+orders_in None = []
+orders_in (Some orders) = orders
 
 -- RowGroup
 

@@ -1,3 +1,4 @@
+pub mod FileEnds
 pub mod FooterWriting
 pub mod Footers
 pub mod ReadFooters

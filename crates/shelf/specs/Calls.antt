@@ -21,6 +21,10 @@ Measures before after name (Err NoMemory) = after ≡ before
 abbrev pub with_range : Storage → ByteRange → Storage
 with_range s range = record s { touched = s.touched ++ range ∷ [] }
 
+-- more ranges were asked for, in order
+abbrev pub with_ranges : Storage → List ByteRange → Storage
+with_ranges s ranges = record s { touched = s.touched ++ ranges }
+
 -- a read of a range, after which `into` holds what was read
 abbrev pub Reads : Storage → Storage → ByteRange → List ℕ → Result (Unit {0}) ShelfError → Type 0
 Reads before after range into (Ok _) = Shows before.files range.name range.at into × (after ≡ with_range before range)

@@ -7,7 +7,8 @@ use Rattle.std.proofs.lemmas.Grind.{flat_map-append}
 use Rattle.shelf.specs.Storage.{Storage}
 use Rattle.shelf.specs.declared.byte_range.ByteRange.{ByteRange}
 use Rattle.footer_structs.specs.declared.row_groups.GroupMeta.{GroupMeta}
-use Rattle.store_read.specs.Ranges.{IsFile, OfFile, with_ranges, Asks, AsksFirst, FailsAt}
+use Rattle.shelf.specs.Calls.{with_ranges}
+use Rattle.store_read.specs.Ranges.{IsFile, OfFile, Asks, AsksFirst, FailsAt}
 use Rattle.store_read.proofs.Reading.{no_ranges, asked_on, first_on, fails_on}
 use Rattle.store_file.specs.SeenGroups.{all_found, with_group, seen_of}
 use Rattle.store_file.specs.FileCalls.{groups_in, chunks_in, plan_of}

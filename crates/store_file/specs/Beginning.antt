@@ -4,7 +4,7 @@ use Rattle.vs_bytes.specs.Outcome.{◌>>=◌}
 use Rattle.vs_bytes.specs.declared.rule.Rule.{Rule}
 use Rattle.file_columns.specs.Columns.{ColumnView, column_of}
 use Rattle.file_columns.specs.Views.{shown}
-use Rattle.thrift_footer.specs.MetaColumns.{orders_of}
+use Rattle.footer_structs.specs.Footers.{orders_in}
 use Rattle.thrift_footer.specs.Opening.{opening}
 use Rattle.thrift_footer.specs.declared.opening.Opened.{Opened}
 use Rattle.thrift_footer.specs.declared.opening.OpenFault.{OpenFault}
@@ -15,7 +15,7 @@ use Rattle.store_file.specs.declared.store_file.StoreFile.{StoreFile}
 
 -- the column of a name in a file that was opened
 abbrev pub column_in : List ℕ → Opened → Result ColumnView Rule
-column_in name opened = column_of opened.meta.schema name (orders_of opened.meta.column_orders)
+column_in name opened = column_of opened.meta.schema name (orders_in opened.meta.column_orders)
 
 -- the opening and the column, or the first rule that the file violates
 unfoldable pub beginning : List ℕ → List ℕ → Result (Opened × ColumnView) Rule

@@ -10,7 +10,8 @@ use Rattle.shelf.specs.Storage.{Storage}
 use Rattle.shelf.specs.declared.byte_range.ByteRange.{ByteRange}
 use Rattle.footer_structs.specs.declared.row_groups.GroupMeta.{GroupMeta}
 use Rattle.group_reading.specs.declared.group_faults.GroupFault.{GroupFault}
-use Rattle.store_read.specs.Ranges.{with_ranges, OfFile, Asks, AsksFirst, FailsAt}
+use Rattle.shelf.specs.Calls.{with_ranges}
+use Rattle.store_read.specs.Ranges.{OfFile, Asks, AsksFirst, FailsAt}
 use Rattle.store_read.specs.GroupRead.{group_in, group_plan}
 use Rattle.group_lines.specs.Lines.{lines_of, trees_of}
 use Rattle.store_file.specs.Places.{in_group}

@@ -6,7 +6,8 @@ use Rattle.std.proofs.lemmas.Bool.Decides.{nat_tests}
 use Rattle.std.proofs.lemmas.List.{append_assoc, append-nil, length-append}
 use Rattle.json_tree.specs.Json.{Json}
 use Rattle.footer_structs.specs.declared.row_groups.GroupMeta.{GroupMeta}
-use Rattle.closed_groups.specs.ClosedGroups.{footer_limit, ending_of}
+use Rattle.footer_structs.specs.FileEnds.{footer_limit}
+use Rattle.closed_groups.specs.ClosedGroups.{ending_of}
 use Rattle.store_write.specs.Frames.{Format, Body, begun, more_metas, close, body_of, with_ending}
 
 abbrev pub Rows : Type 0

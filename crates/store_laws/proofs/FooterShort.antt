@@ -23,7 +23,8 @@ use Rattle.schema_parsing.proofs.Canonical.{canonical_is_schema}
 use Rattle.schema_parsing.proofs.WrittenNodes.{schema_written}
 use Rattle.written_columns.specs.Written.{leaf_element, group_element, root_element, column_element, value_elements, member_elements, typed_elements, field_elements}
 use Rattle.written_columns.proofs.Ways.{paths_counted}
-use Rattle.closed_groups.specs.ClosedGroups.{footer_limit, file_meta}
+use Rattle.footer_structs.specs.FileEnds.{footer_limit}
+use Rattle.closed_groups.specs.ClosedGroups.{file_meta}
 use Rattle.store_write.specs.Made.{column_name, schema_of, paths_of, orders_of}
 use Rattle.reading_laws.proofs.WrittenGroups.{schema_well_formed}
 use Rattle.store_laws.proofs.NodeNames.{name_within}

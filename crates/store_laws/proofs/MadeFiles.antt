@@ -25,7 +25,9 @@ use Rattle.written_columns.proofs.Fits.{one_tree, leaves_are, have_lengths, sche
 use Rattle.written_columns.proofs.Ways.{paths_counted}
 use Rattle.written_columns.proofs.Whole.{written_back}
 use Rattle.group_writing.specs.GroupChunks.{Path}
-use Rattle.closed_groups.specs.ClosedGroups.{magic, footer_limit, file_meta, orders_in, ending_of}
+use Rattle.footer_structs.specs.Footers.{orders_in}
+use Rattle.footer_structs.specs.FileEnds.{magic, footer_limit}
+use Rattle.closed_groups.specs.ClosedGroups.{file_meta, ending_of}
 use Rattle.closed_groups.proofs.FooterSizes.{groups_some, groups_within}
 use Rattle.open_group.specs.declared.settings.Settings.{Settings}
 use Rattle.open_group.specs.Filling.{is_full}

@@ -11,8 +11,9 @@ use Rattle.vs_bytes.specs.declared.rule.Rule.{Rule}
 use Rattle.vs_bytes.specs.declared.rule.Rule.TheVariants as rule
 use Rattle.footer_structs.specs.ReadFooters.{footer}
 use Rattle.footer_structs.specs.declared.file_metadata.FileMeta.{FileMeta}
-use Rattle.closed_groups.specs.ClosedGroups.{magic, footer_limit, ending_of}
-use Rattle.thrift_footer.specs.Opening.{least_len, tail_len, most_footer, footer_size, size_in, begin_of, opened, opening}
+use Rattle.footer_structs.specs.FileEnds.{magic, footer_limit}
+use Rattle.closed_groups.specs.ClosedGroups.{ending_of}
+use Rattle.thrift_footer.specs.Opening.{least_len, tail_len, footer_size, size_in, begin_of, opened, opening}
 
 part_between : (front piece rest : List ℕ) → part (front ++ (piece ++ rest)) (length front) (length piece) ≡ piece
 part_between front piece rest = ap (take (length piece)) (drop-append_seam front (piece ++ rest)) ∙ take-append_seam piece rest
@@ -40,15 +41,15 @@ magic_back n = part_at (tail_of n) (number_bytes 4 n) magic [] 4 4 (ap (λ (xs :
 either_not : (a b : Bool) → a ≡ false → b ≡ false → (a || b) ≡ false
 either_not a b h k = rw (h, k) refl
 
-size_found : (len n : ℕ) (front tail : List ℕ) → front ≡ magic → tail ≡ tail_of n → n ≤ most_footer → n + 12 ≤ len → footer_size len front tail ≡ Ok n
+size_found : (len n : ℕ) (front tail : List ℕ) → front ≡ magic → tail ≡ tail_of n → n ≤ footer_limit → n + 12 ≤ len → footer_size len front tail ≡ Ok n
 unfolding footer_size
 size_found len n front tail is ends few inside =
     let back : number tail 0 4 ≡ n = ap (λ (xs : List ℕ). number xs 0 4) ends ∙ size_back n (omega (arith, few)) in
     let whole : bytes_eq front magic && bytes_eq (part tail 4 4) magic ≡ true =
     ap (λ (xs : List ℕ). bytes_eq xs magic && bytes_eq (part tail 4 4) magic) is ∙ (ap (λ (xs : List ℕ). bytes_eq magic magic && bytes_eq (part xs 4 4) magic) ends ∙ ap (λ (xs : List ℕ). bytes_eq magic magic && bytes_eq xs magic) (magic_back n)) in
-    let small : (nat_lt most_footer n || nat_lt (len - least_len) n) ≡ false = either_not (nat_lt most_footer n) (nat_lt (len - least_len) n) (le-ltb most_footer n few) (le-ltb (len - least_len) n (omega (arith, inside))) in
-    ap (λ b. cond (not b) (Err rule.NotParquet) (cond (nat_lt most_footer (number tail 0 4) || nat_lt (len - least_len) (number tail 0 4)) (Err rule.FooterLength) (Ok (number tail 0 4)))) whole
-    ∙ (ap (λ (m : ℕ). cond (nat_lt most_footer m || nat_lt (len - least_len) m) (Err rule.FooterLength) (Ok m)) back
+    let small : (nat_lt footer_limit n || nat_lt (len - least_len) n) ≡ false = either_not (nat_lt footer_limit n) (nat_lt (len - least_len) n) (le-ltb footer_limit n few) (le-ltb (len - least_len) n (omega (arith, inside))) in
+    ap (λ b. cond (not b) (Err rule.NotParquet) (cond (nat_lt footer_limit (number tail 0 4) || nat_lt (len - least_len) (number tail 0 4)) (Err rule.FooterLength) (Ok (number tail 0 4)))) whole
+    ∙ (ap (λ (m : ℕ). cond (nat_lt footer_limit m || nat_lt (len - least_len) m) (Err rule.FooterLength) (Ok m)) back
     ∙ ap (λ b. cond b (Err rule.FooterLength) (Ok n)) small)
 
 -- the place of the footer

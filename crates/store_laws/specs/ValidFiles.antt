@@ -9,7 +9,7 @@ use Rattle.thrift_structs.specs.ChunkRanges.{chunk_range}
 use Rattle.thrift_structs.specs.declared.column_chunks.ChunkMeta.{ChunkMeta}
 use Rattle.footer_structs.specs.declared.row_groups.GroupMeta.{GroupMeta}
 use Rattle.shred_schema.specs.Groups.{Group, width}
-use Rattle.closed_groups.specs.ClosedGroups.{orders_in}
+use Rattle.footer_structs.specs.Footers.{orders_in}
 use Rattle.store_read.specs.FileGroups.{leaf_at, chunk_at}
 use Rattle.thrift_footer.specs.Opening.{opening}
 use Rattle.thrift_footer.specs.declared.opening.Opened.{Opened}

@@ -7,7 +7,7 @@ ghost use Rattle.shred_schema.specs.Groups.{Group};
 ghost use Rattle.schema_parsing.specs.Grammar.{IsSchema};
 ghost use Rattle.file_columns.specs.Columns.{column_of};
 ghost use Rattle.written_columns.specs.Written.{written_view};
-ghost use Rattle.closed_groups.specs.ClosedGroups.{orders_in};
+ghost use Rattle.footer_structs.specs.Footers.{orders_in};
 ghost use Rattle.open_group.specs.declared.settings.Settings.{Settings};
 ghost use Rattle.open_group.specs.Filling.{is_full};
 ghost use Rattle.open_group.specs.OpenGroups.{IsSettings};

@@ -3,7 +3,7 @@ use Rattle.std.proofs.Common.{◌≡◌, ◌∙◌, refl, sym, ap, subst, ℕ, L
 use Rattle.vs_bytes.specs.Numbers.{part}
 use Rattle.vs_bytes.specs.Outcome.{◌>>=◌}
 use Rattle.shelf.specs.Storage.{Storage, FailsRead}
-use Rattle.shelf.specs.Calls.{IsCounted, with_range}
+use Rattle.shelf.specs.Calls.{IsCounted, with_range, with_ranges}
 use Rattle.shelf.specs.declared.byte_range.ByteRange.{ByteRange}
 use Rattle.vs_bytes.specs.declared.leaf_columns.Entry.{Entry}
 use Rattle.vs_bytes.specs.declared.leaf_columns.Leaf.{Leaf}
@@ -16,7 +16,7 @@ use Rattle.file_columns.specs.declared.columns.FileColumn.{FileColumn}
 use Rattle.group_reading.specs.ChunkEntries.{chunk_entries}
 use Rattle.group_reading.specs.declared.group_faults.GroupFault.{GroupFault}
 use Rattle.store_read.specs.FileGroups.{values_in, chunk_seen, range_in, chunk_plan, leaf_at, chunk_at, rows_in, with_chunk, nth_seen, nth_plan}
-use Rattle.store_read.specs.Ranges.{IsFile, OfFile, with_ranges, Asks, AsksFirst, FailsAt, Gives, Refuses, ReadsFile}
+use Rattle.store_read.specs.Ranges.{IsFile, OfFile, Asks, AsksFirst, FailsAt, Gives, Refuses, ReadsFile}
 use Rattle.store_read.specs.declared.read_stop.ReadStop.{ReadStop}
 use Rattle.store_read.specs.declared.read_stop.ReadStop.TheVariants.{Violated, Failed, NoMemory}
 

@@ -3,7 +3,7 @@
 use Rattle.std.specs.Prelude.{◌≡◌, ℕ, List, [], ◌∷◌, ◌++◌, ◌⊎◌, length, Option, None, Some, Result, Ok, Err}
 use Rattle.std.specs.FinMap.{get}
 use Rattle.shelf.specs.Storage.{Files, Storage, Shows, FailsRead}
-use Rattle.shelf.specs.Calls.{IsCounted, with_range}
+use Rattle.shelf.specs.Calls.{IsCounted, with_range, with_ranges}
 use Rattle.shelf.specs.declared.byte_range.ByteRange.{ByteRange}
 use Rattle.store_read.specs.declared.fetching.FetchError.{FetchError}
 use Rattle.store_read.specs.declared.fetching.FetchError.TheVariants as fetch
@@ -18,10 +18,6 @@ IsFile (Some m) name file = get m name ≡ Some file
 -- what holds of the bytes of the file, where they are known
 abbrev pub OfFile : Storage → List ℕ → (List ℕ → Type 0) → Type 0
 OfFile s name P = (file : List ℕ) → IsFile s.files name file → P file
-
--- ranges were asked for
-abbrev pub with_ranges : Storage → List ByteRange → Storage
-with_ranges s ranges = record s { touched = s.touched ++ ranges }
 
 -- One range.
 

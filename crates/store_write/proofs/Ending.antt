@@ -14,7 +14,8 @@ use Rattle.store_write.specs.Frames.{Body, body_of, with_ending}
 use Rattle.store_write.specs.Made.{format, made}
 use Rattle.store_write.proofs.Standing.{footer_same, body_with, body_long, grown}
 use Rattle.store_write.specs.declared.file_writer.FileWriter.{FileWriter}
-use Rattle.closed_groups.specs.ClosedGroups.{Closed, meta_of, ending_of, footer_size, footer_limit}
+use Rattle.footer_structs.specs.FileEnds.{footer_limit}
+use Rattle.closed_groups.specs.ClosedGroups.{Closed, meta_of, ending_of, footer_size}
 use Rattle.shelf.specs.Storage.{Files, Storage, Has, appended}
 use Rattle.shelf.specs.Calls.{Adds}
 use Rattle.shelf.specs.declared.shelf.ShelfError.{ShelfError}

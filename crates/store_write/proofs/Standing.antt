@@ -21,7 +21,8 @@ use Rattle.group_writing.specs.GroupChunks.{Path, chunks_size}
 use Rattle.open_group.specs.declared.settings.Settings.{Settings}
 use Rattle.open_group.specs.Filling.{is_full, is_full_by, rows_count, records_of}
 use Rattle.open_group.specs.OpenGroups.{Open, records_in, node_of, KeepsColumn}
-use Rattle.closed_groups.specs.ClosedGroups.{Closed, meta_of, footer_size, footer_limit, file_meta}
+use Rattle.footer_structs.specs.FileEnds.{footer_limit}
+use Rattle.closed_groups.specs.ClosedGroups.{Closed, meta_of, footer_size, file_meta}
 use Rattle.shelf.specs.Storage.{Files, Storage, appended}
 use Rattle.shelf.proofs.Appending.{get_inserted}
 use Rattle.store_write.specs.Cutting.{Cut, with_row, cut_of}

@@ -18,7 +18,8 @@ use Rattle.shred_schema.specs.declared.nodes.Column.{Column}
 use Rattle.schema_elements.specs.declared.elements.SchemaElement.{SchemaElement}
 use Rattle.open_group.specs.declared.settings.Settings.{Settings}
 use Rattle.open_group.specs.OpenGroups.{Open, node_of}
-use Rattle.closed_groups.specs.ClosedGroups.{Closed, magic}
+use Rattle.footer_structs.specs.FileEnds.{magic}
+use Rattle.closed_groups.specs.ClosedGroups.{Closed}
 use Rattle.shelf.specs.Storage.{Files, Storage, with_file, appended}
 use Rattle.shelf.specs.Calls.{Creates, Adds}
 use Rattle.shelf.specs.declared.shelf.ShelfError.{ShelfError}

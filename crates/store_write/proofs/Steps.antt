@@ -9,7 +9,8 @@ use Rattle.shred_schema.specs.Views.{group_of}
 use Rattle.shred_schema.specs.declared.nodes.Column.{Column}
 use Rattle.open_group.specs.declared.settings.Settings.{Settings}
 use Rattle.open_group.specs.OpenGroups.{records_in}
-use Rattle.closed_groups.specs.ClosedGroups.{magic, footer_size, footer_limit}
+use Rattle.footer_structs.specs.FileEnds.{magic, footer_limit}
+use Rattle.closed_groups.specs.ClosedGroups.{footer_size}
 use Rattle.shelf.specs.Storage.{Files, Storage, Has, with_file, appended, FailsWrite}
 use Rattle.shelf.specs.Calls.{Creates, Adds}
 use Rattle.shelf.specs.declared.shelf.ShelfError.TheVariants as shelf

@@ -3,7 +3,8 @@
 -- is an argument.
 use Rattle.std.specs.Prelude.{ℕ, List, [], ◌∷◌, ◌++◌, Bool, cond, nat_le, length, fold, Result, Ok, Err}
 use Rattle.std.specs.List.{concat}
-use Rattle.closed_groups.specs.ClosedGroups.{magic, footer_limit, ending_of}
+use Rattle.footer_structs.specs.FileEnds.{magic, footer_limit}
+use Rattle.closed_groups.specs.ClosedGroups.{ending_of}
 use Rattle.store_write.specs.Cutting.{cut_of, groups_of}
 
 -- how rows become a file: which rows fill a group, the chunks of a group's rows, the group's struct in the footer where

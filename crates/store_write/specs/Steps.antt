@@ -4,7 +4,7 @@ use Rattle.json_tree.specs.Json.{Json}
 use Rattle.shred_schema.specs.Groups.{Group}
 use Rattle.footer_structs.specs.declared.row_groups.GroupMeta.{GroupMeta}
 use Rattle.open_group.specs.declared.settings.Settings.{Settings}
-use Rattle.closed_groups.specs.ClosedGroups.{magic}
+use Rattle.footer_structs.specs.FileEnds.{magic}
 use Rattle.shelf.specs.Storage.{Storage, Has, Lacks, with_file, appended, FailsWrite, Clashes}
 use Rattle.shelf.specs.Calls.{IsCounted}
 use Rattle.store_write.specs.Cutting.{cut_of}

@@ -11,7 +11,8 @@ use Rattle.group_writing.specs.GroupChunks.{chunks_size}
 use Rattle.open_group.specs.declared.settings.Settings.{Settings}
 use Rattle.open_group.specs.Filling.{is_full, is_full_by, rows_count, records_of}
 use Rattle.open_group.specs.OpenGroups.{Open, records_in, node_of, KeepsColumn}
-use Rattle.closed_groups.specs.ClosedGroups.{Closed, meta_of, with_group, footer_size, footer_limit, ending_of, magic}
+use Rattle.footer_structs.specs.FileEnds.{footer_limit, magic}
+use Rattle.closed_groups.specs.ClosedGroups.{Closed, meta_of, with_group, footer_size, ending_of}
 use Rattle.footer_structs.specs.FooterWriting.{footer_bytes}
 use Rattle.shelf.specs.Storage.{Files, Storage, Lacks, with_file, appended}
 use Rattle.shelf.specs.Calls.{Creates, Adds}

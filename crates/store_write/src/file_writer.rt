@@ -9,6 +9,7 @@ ghost use Rattle.std.specs.Option.{ForNone};
 use crate::group_closing::{add_row, end_file};
 use crate::write_error::{First, WriteError};
 use closed_groups::ClosedGroups;
+use footer_structs::MAGIC;
 use json_tree::Tree;
 use open_group::{OpenGroup, Settings};
 use shelf::{Shelf, ShelfError};
@@ -16,9 +17,6 @@ use shred_schema::{Column, Node};
 use std::alloc::Global;
 use vs_bytes::{NoMemory, Sequence, Text};
 use written_columns::{SchemaPath, leaf_paths, schema_elements};
-
-/// The magic number.
-const MAGIC: &[u8] = b"PAR1";
 
 /// A file of one column of shredded Variants, which is written row by row.
 ///
@@ -61,7 +59,7 @@ impl FileWriter {
     ghost use Rattle.shred_schema.specs.Views.{group_of};
     ghost use Rattle.schema_parsing.specs.Grammar.{IsSchema};
     ghost use Rattle.schema_parsing.specs.Canonical.{schema_text, HasText};
-    ghost use Rattle.closed_groups.specs.ClosedGroups.{magic};
+    ghost use Rattle.footer_structs.specs.FileEnds.{magic};
     ghost use Rattle.open_group.specs.OpenGroups.{row_of, IsSettings};
     ghost use Rattle.store_write.specs.Writers.{name_of, node_in, settings_in, broken_by, Stands, StandsIn, MadeIn, Starts, error_of, AddsRow, EndsFile, IsFor, KeepsForm};
 

@@ -2,9 +2,9 @@
 use Rattle.std.proofs.Common.{◌≡◌, ◌∙◌, refl, sym, ap, subst, ℕ, List, [], ◌++◌, Option, None, Some, Result, Ok, Err, append_assoc, append-nil}
 use Rattle.vs_bytes.specs.declared.rule.Rule.{Rule}
 use Rattle.shelf.specs.Storage.{Files, Storage, FailsRead, Lacks, Misses}
-use Rattle.shelf.specs.Calls.{IsCounted}
+use Rattle.shelf.specs.Calls.{IsCounted, with_ranges}
 use Rattle.shelf.specs.declared.byte_range.ByteRange.{ByteRange}
-use Rattle.thrift_footer.specs.Opening.{IsFile, with_ranges, Leaves, Keeps, Asks, IsRead, IsThere}
+use Rattle.thrift_footer.specs.Opening.{IsFile, Leaves, Keeps, Asks, IsRead, IsThere}
 use Rattle.thrift_footer.specs.declared.opening.OpenFault.{OpenFault}
 use Rattle.thrift_footer.specs.declared.opening.OpenFault.TheVariants.{Absent, Failed, Refused, NoMemory}
 

@@ -1,6 +1,6 @@
 -- Opening a file (the parquet-format README, "File format"). A file begins with the magic number `PAR1`. It ends with
 -- the footer, the footer's length in four bytes, little-endian, and the magic number again.
-use Rattle.std.specs.Prelude.{◌≡◌, ℕ, ◌-◌, nat_lt, ◌&&◌, ◌||◌, not, if◌then◌else◌, List, [], ◌∷◌, ◌++◌, length, bytes_eq, codes, Option, None, Some, Result, Ok, Err}
+use Rattle.std.specs.Prelude.{◌≡◌, ℕ, ◌-◌, nat_lt, ◌&&◌, ◌||◌, not, if◌then◌else◌, List, [], ◌∷◌, ◌++◌, length, bytes_eq, Option, None, Some, Result, Ok, Err}
 use Rattle.std.specs.FinMap.{get}
 use Rattle.vs_bytes.specs.Numbers.{number, part}
 use Rattle.vs_bytes.specs.Outcome.{◌>>=◌}
@@ -8,14 +8,13 @@ use Rattle.vs_bytes.specs.declared.rule.Rule.{Rule}
 use Rattle.vs_bytes.specs.declared.rule.Rule.TheVariants.{NotParquet, FooterLength}
 use Rattle.shelf.specs.Storage.{Files, Storage, Lacks, FailsRead, Misses}
 use Rattle.shelf.specs.declared.byte_range.ByteRange.{ByteRange}
+use Rattle.shelf.specs.Calls.{with_ranges}
+use Rattle.footer_structs.specs.FileEnds.{magic, footer_limit}
 use Rattle.footer_structs.specs.ReadFooters.{footer}
 use Rattle.footer_structs.specs.declared.file_metadata.FileMeta.{FileMeta}
 use Rattle.thrift_footer.specs.declared.opening.Opened.{Opened}
 use Rattle.thrift_footer.specs.declared.opening.OpenFault.{OpenFault}
 use Rattle.thrift_footer.specs.declared.opening.OpenFault.TheVariants.{Absent, Failed, Refused, NoMemory}
-
-abbrev pub magic : List ℕ
-magic = codes "PAR1"
 
 -- the magic number at both ends, and the footer's length
 abbrev pub least_len : ℕ
@@ -25,14 +24,11 @@ least_len = 12
 abbrev pub tail_len : ℕ
 tail_len = 8
 
-abbrev pub most_footer : ℕ
-most_footer = 67108864
-
 -- how long the footer is, by the file's length, its first 4 bytes and its last 8
 unfoldable pub footer_size : ℕ → List ℕ → List ℕ → Result ℕ Rule
 footer_size len front tail =
     if not (bytes_eq front magic && bytes_eq (part tail 4 4) magic) then Err NotParquet
-    else if nat_lt most_footer (number tail 0 4) || nat_lt (len - least_len) (number tail 0 4) then Err FooterLength
+    else if nat_lt footer_limit (number tail 0 4) || nat_lt (len - least_len) (number tail 0 4) then Err FooterLength
     else Ok (number tail 0 4)
 
 -- how long a file's footer is
@@ -81,10 +77,6 @@ pub record IsMissing (files : Option Files) (name : List ℕ) : Type 0 where
   pub map : Files
   pub known : files ≡ Some map
   pub absent : get map name ≡ None
-
--- more ranges were asked for, and nothing else changed
-abbrev pub with_ranges : Storage → List ByteRange → Storage
-with_ranges s asked = record s { touched = s.touched ++ asked }
 
 -- a count goes with a fault
 abbrev pub Leaves : {A : Type 0} → Storage → Storage → List ℕ → List ByteRange → Result A OpenFault → Type 0

@@ -2,21 +2,17 @@
 
 ghost use Rattle.std.specs.Prelude.{◌≡◌, ◌≤◌, ◌+◌, length, bytes_eq, IfOk};
 ghost use Rattle.vs_bytes.specs.Outcome.{Gives};
-ghost use Rattle.thrift_footer.specs.Opening.{magic, footer_size};
+ghost use Rattle.footer_structs.specs.FileEnds.{magic};
+ghost use Rattle.thrift_footer.specs.Opening.{footer_size};
 
+use footer_structs::{FOOTER_LIMIT, MAGIC};
 use vs_bytes::{Rule, number_at, part};
-
-// The magic number.
-const MAGIC: &[u8; 4] = b"PAR1";
 
 /// How many bytes the magic number at both ends and the footer's length take.
 pub const LEAST_LEN: u64 = 12;
 
 /// How many bytes the footer's length and the magic number after it take.
 pub const TAIL_LEN: u64 = 8;
-
-// How long a footer may be.
-const MOST_FOOTER: u64 = 67_108_864;
 
 fn is_magic(bytes: &[u8]) -> bool
     ensures { result ≡ bytes_eq bytes.now magic }
@@ -37,7 +33,7 @@ pub fn footer_size(len: u64, front: &[u8], tail: &[u8]) -> Result<u64, Rule>
         return Err(Rule::NotParquet);
     }
     let size = u64::from(number_at(tail, 0, 4));
-    if MOST_FOOTER < size || len - LEAST_LEN < size {
+    if FOOTER_LIMIT as u64 < size || len - LEAST_LEN < size {
         return Err(Rule::FooterLength);
     }
     Ok(size)

@@ -8,15 +8,15 @@ ghost use Rattle.shred_schema.specs.Views.{group_of};
 ghost use Rattle.file_columns.specs.Columns.{column_of};
 ghost use Rattle.file_columns.specs.Views.{shown};
 ghost use Rattle.schema_elements.specs.SchemaTrees.{leaf_count};
-ghost use Rattle.thrift_footer.specs.MetaColumns.{orders_of};
+ghost use Rattle.footer_structs.specs.Footers.{orders_in};
 
 use file_columns::FileColumn;
 use footer_structs::FileMeta;
 use std::alloc::Global;
 use vs_bytes::{Refusal, Sequence};
 
-fn orders_of(orders: &Option<Sequence<i32>>) -> &[i32]
-    ensures { result.now ≡ orders_of orders.now }
+fn orders_in(orders: &Option<Sequence<i32>>) -> &[i32]
+    ensures { result.now ≡ orders_in orders.now }
 {
     match orders {
         Some(orders) => orders.as_slice(),
@@ -26,7 +26,7 @@ fn orders_of(orders: &Option<Sequence<i32>>) -> &[i32]
 
 /// The column of a name in the metadata of a file: `file_columns::column` of its schema and its orders.
 pub fn column(alloc: Global, meta: &FileMeta, name: &str) -> Result<FileColumn, Refusal>
-    ensures exact { Makes shown result (column_of meta.now.schema name.now (orders_of meta.now.column_orders)) }
+    ensures exact { Makes shown result (column_of meta.now.schema name.now (orders_in meta.now.column_orders)) }
     ensures well_formed { IfOk result (λ found. IsWellFormed (group_of found.column.node)) }
     ensures leaves { IfOk result (λ found. length found.leaves ≡ 1 + width (group_of found.column.node)) }
     ensures places { IfOk result (λ found. length found.places ≡ 1 + width (group_of found.column.node)) }
@@ -37,6 +37,6 @@ pub fn column(alloc: Global, meta: &FileMeta, name: &str) -> Result<FileColumn, 
         alloc,
         meta.schema.as_slice(),
         name,
-        orders_of(&meta.column_orders),
+        orders_in(&meta.column_orders),
     )
 }
