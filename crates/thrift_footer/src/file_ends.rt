@@ -33,7 +33,7 @@ pub fn footer_size(len: u64, front: &[u8], tail: &[u8]) -> Result<u64, Rule>
         return Err(Rule::NotParquet);
     }
     let size = u64::from(number_at(tail, 0, 4));
-    if FOOTER_LIMIT as u64 < size || len - LEAST_LEN < size {
+    if (FOOTER_LIMIT as u64) < size || len - LEAST_LEN < size {
         return Err(Rule::FooterLength);
     }
     Ok(size)
