@@ -6,5 +6,6 @@ pub mod LevelsBack
 pub mod Light
 pub mod Maximum
 pub mod PageBack
+pub mod ReadingInTurn
 pub mod Samples
 pub mod Truths

@@ -3,11 +3,10 @@
 ghost use Rattle.vs_bytes.specs.Outcome.{Makes};
 ghost use Rattle.pages.specs.Bodies.{data_body};
 
-use crate::joining::joined;
+use crate::joining::entries_of;
 use crate::levels::read_levels;
-use plain_values::decode;
 use std::alloc::Global;
-use vs_bytes::{EntryList, Leaf, Refusal, Refused, rest};
+use vs_bytes::{EntryList, Leaf, Refusal, rest};
 
 /// The entries in the body of a data page of the first form, whose values are in PLAIN.
 #[tactic(auto, unfolding(crate::specs::Bodies::data_body))]
@@ -29,12 +28,5 @@ pub(crate) fn data_body(
         Err(refusal) => return Err(refusal),
     };
     let values = rest(after_reps, used);
-    let cells = match decode(alloc, leaf, defs.count(leaf.def), values) {
-        Ok(cells) => cells,
-        Err(refusal) => return Err(refusal),
-    };
-    match joined(alloc, leaf.def, count, &reps, &defs, cells) {
-        Ok(entries) => Ok(entries),
-        Err(_) => Err(Refused::NoMemory),
-    }
+    entries_of(alloc, leaf, count, &reps, &defs, values)
 }

@@ -1,15 +1,19 @@
 //! Entries of levels and values.
 
-ghost use Rattle.std.specs.Prelude.{◌≡◌, ◌<◌, ℕ, length, slice_index, IfOk};
+ghost use Rattle.std.specs.Prelude.{◌≡◌, ◌≤◌, ◌<◌, ◌==◌, ℕ, length, slice_index, IfOk};
+ghost use Rattle.vs_bytes.specs.Outcome.{Makes};
+ghost use Rattle.plain_values.specs.Plain.{front_cell};
 ghost use Rattle.pages.specs.Bodies.{joined};
+ghost use Rattle.pages.specs.ReadInTurn.{value_at, entries_in_turn, entries_at_once};
 ghost use Rattle.pages.specs.Shown.{shown};
 
 use crate::levels::Levels;
+use plain_values::{decode, front_cell};
 use std::alloc::Global;
-use vs_bytes::{Cells, Entry, EntryList, NoMemory};
+use vs_bytes::{Cell, Cells, Entry, EntryList, Leaf, NoMemory, Phys, Refusal, Refused, rest};
 
-/// The entries of `count` levels of both kinds, and of the values at the maximum definition level.
-pub(crate) fn joined(
+// The entries of `count` levels of both kinds, and of the values at the maximum definition level.
+fn joined(
     alloc: Global,
     maximum: u16,
     count: usize,
@@ -35,4 +39,138 @@ pub(crate) fn joined(
         })?;
     }
     Ok(EntryList::from_vec(entries))
+}
+
+// Truth values are bits, which are read at once.
+fn truths(
+    alloc: Global,
+    leaf: &Leaf,
+    count: usize,
+    reps: &Levels,
+    defs: &Levels,
+    bytes: &[u8],
+) -> Result<EntryList, Refusal>
+    requires reps { length (shown reps.now) ≡ count }
+    requires defs { length (shown defs.now) ≡ count }
+    requires small_reps { (k : ℕ) → slice_index (shown reps.now) k < 65536 }
+    requires small_defs { (k : ℕ) → slice_index (shown defs.now) k < 65536 }
+    ensures { Makes (λ entries. entries) result (entries_at_once leaf.now (shown reps.now) (shown defs.now) bytes.now) }
+{
+    let cells = match decode(alloc, leaf, defs.count(leaf.def), bytes) {
+        Ok(cells) => cells,
+        Err(refusal) => return Err(refusal),
+    };
+    match joined(alloc, leaf.def, count, reps, defs, cells) {
+        Ok(entries) => Ok(entries),
+        Err(_) => Err(Refused::NoMemory),
+    }
+}
+
+// The value of an entry at the front, if it is due, and how many bytes it takes.
+#[inline(always)]
+fn value_at(
+    alloc: Global,
+    leaf: &Leaf,
+    def: u16,
+    bytes: &[u8],
+) -> Result<(Option<Cell>, usize), Refusal>
+    ensures exact { Makes (λ v. v) result (value_at (front_cell leaf.now.phys leaf.now.prim) (def == leaf.now.def) bytes.now) }
+    ensures within { IfOk result (λ v. v.1 ≤ length bytes.now) }
+{
+    if def == leaf.def {
+        match front_cell(alloc, leaf, bytes) {
+            Ok((cell, used)) => Ok((Some(cell), used)),
+            Err(refusal) => Err(refusal),
+        }
+    } else {
+        Ok((None, 0))
+    }
+}
+
+// How many entries to make room for. Most values take 4 bytes or more: values that the bytes can't bear ask for no
+// more memory.
+fn room(count: usize, values: usize, len: usize) -> usize {
+    count
+        .saturating_sub(values)
+        .saturating_add(values.min(len / 4))
+}
+
+// Each value is read into its entry. It is put in line where the type is known, so that each type has a loop of its
+// own.
+#[inline(always)]
+fn in_turn(
+    alloc: Global,
+    leaf: &Leaf,
+    count: usize,
+    reps: &Levels,
+    defs: &Levels,
+    bytes: &[u8],
+) -> Result<EntryList, Refusal>
+    requires reps { length (shown reps.now) ≡ count }
+    requires defs { length (shown defs.now) ≡ count }
+    requires small_reps { (k : ℕ) → slice_index (shown reps.now) k < 65536 }
+    requires small_defs { (k : ℕ) → slice_index (shown defs.now) k < 65536 }
+    ensures { Makes (λ entries. entries) result (entries_in_turn (front_cell leaf.now.phys leaf.now.prim) leaf.now.def (shown reps.now) (shown defs.now) bytes.now) }
+{
+    let room = room(count, defs.count(leaf.def), bytes.len());
+    let mut entries = match EntryList::with_capacity(alloc, room) {
+        Ok(entries) => entries,
+        Err(_) => return Err(Refused::NoMemory),
+    };
+    let mut at = 0;
+    for i in 0..count {
+        let rep = reps.at(i) as u16;
+        let def = defs.at(i) as u16;
+        match value_at(alloc, leaf, def, rest(bytes, at)) {
+            Ok((value, used)) => match entries.push(Entry { rep, def, value }) {
+                Ok(()) => at += used,
+                Err(_) => return Err(Refused::NoMemory),
+            },
+            Err(refusal) => return Err(refusal),
+        }
+    }
+    Ok(entries)
+}
+
+/// The entries of `count` levels of both kinds, and of the values at the front of `bytes`.
+#[tactic(auto, using(crate::proofs::ReadingInTurn::of_type))]
+pub(crate) fn entries_of(
+    alloc: Global,
+    leaf: &Leaf,
+    count: usize,
+    reps: &Levels,
+    defs: &Levels,
+    bytes: &[u8],
+) -> Result<EntryList, Refusal>
+    requires reps { length (shown reps.now) ≡ count }
+    requires defs { length (shown defs.now) ≡ count }
+    requires small_reps { (k : ℕ) → slice_index (shown reps.now) k < 65536 }
+    requires small_defs { (k : ℕ) → slice_index (shown defs.now) k < 65536 }
+    ensures { Makes (λ entries. entries) result (entries_at_once leaf.now (shown reps.now) (shown defs.now) bytes.now) }
+{
+    match leaf.phys {
+        Phys::Boolean => truths(alloc, leaf, count, reps, defs, bytes),
+        Phys::Int32 => {
+            let integers = Leaf {
+                phys: Phys::Int32,
+                ..*leaf
+            };
+            in_turn(alloc, &integers, count, reps, defs, bytes)
+        }
+        Phys::Int64 => {
+            let integers = Leaf {
+                phys: Phys::Int64,
+                ..*leaf
+            };
+            in_turn(alloc, &integers, count, reps, defs, bytes)
+        }
+        Phys::ByteArray => {
+            let arrays = Leaf {
+                phys: Phys::ByteArray,
+                ..*leaf
+            };
+            in_turn(alloc, &arrays, count, reps, defs, bytes)
+        }
+        _ => in_turn(alloc, leaf, count, reps, defs, bytes),
+    }
 }

@@ -125,9 +125,12 @@ fn array(alloc: Global, kind: Prim, bytes: &[u8]) -> Result<(Cell, usize), Refus
     }
 }
 
-/// The cell of any type but BOOLEAN at the front, and how many bytes it takes.
+/// The cell of a leaf column of any type but BOOLEAN at the front of `bytes`, and how many bytes it takes. The rules
+/// are those of `decode`.
+///
+/// For a caller that keeps its cells apart.
 #[inline(always)]
-pub(crate) fn front_cell(alloc: Global, leaf: &Leaf, bytes: &[u8]) -> Result<(Cell, usize), Refusal>
+pub fn front_cell(alloc: Global, leaf: &Leaf, bytes: &[u8]) -> Result<(Cell, usize), Refusal>
     ensures exact { Makes (λ c. c) result (front_cell leaf.now.phys leaf.now.prim bytes.now) }
     ensures within { IfOk result (λ c. c.1 ≤ length bytes.now) }
 {
