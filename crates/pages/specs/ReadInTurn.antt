@@ -1,5 +1,5 @@
 -- Entries that are made one by one: each takes its value from the front of the bytes.
-use Rattle.std.specs.Prelude.{ℕ, ◌==◌, Bool, true, false, List, [], ◌∷◌, drop, Option, None, Some, Result, Ok}
+use Rattle.std.specs.Prelude.{ℕ, ◌==◌, Bool, true, false, List, [], ◌∷◌, ◌++◌, drop, Option, None, Some, Result, Ok}
 use Rattle.vs_bytes.specs.Outcome.{◌>>=◌}
 use Rattle.vs_bytes.specs.declared.leaf_columns.Cell.{Cell}
 use Rattle.vs_bytes.specs.declared.leaf_columns.Entry.{Entry}
@@ -21,6 +21,10 @@ entries_in_turn front maximum (rep ∷ reps) (def ∷ defs) bytes =
     value_at front (def == maximum) bytes >>= (λ v.
     entries_in_turn front maximum reps defs (drop v.1 bytes) >>= (λ es.
     Ok (entry rep def v.0 ∷ es)))
+
+-- what was found and one more entry, and how many bytes its value takes
+abbrev pub one_more : (List ℕ → Result (Cell × ℕ) Rule) → ℕ → ℕ → ℕ → List Entry → List ℕ → Result (List Entry × ℕ) Rule
+one_more front maximum rep def found bytes = value_at front (def == maximum) bytes >>= (λ v. Ok (found ++ entry rep def v.0 ∷ [], v.1))
 
 -- the entries of levels, where all values are read first
 abbrev pub entries_at_once : Leaf → List ℕ → List ℕ → List ℕ → Result (List Entry) Rule

@@ -4,13 +4,13 @@ ghost use Rattle.std.specs.Prelude.{◌≡◌, ◌≤◌, ◌<◌, ◌==◌, ℕ
 ghost use Rattle.vs_bytes.specs.Outcome.{Makes};
 ghost use Rattle.plain_values.specs.Plain.{front_cell};
 ghost use Rattle.pages.specs.Bodies.{joined};
-ghost use Rattle.pages.specs.ReadInTurn.{value_at, entries_in_turn, entries_at_once};
+ghost use Rattle.pages.specs.ReadInTurn.{one_more, entries_in_turn, entries_at_once};
 ghost use Rattle.pages.specs.Shown.{shown};
 
 use crate::levels::Levels;
 use plain_values::{decode, front_cell};
 use std::alloc::Global;
-use vs_bytes::{Cell, Cells, Entry, EntryList, Leaf, NoMemory, Phys, Refusal, Refused, rest};
+use vs_bytes::{Cells, Entry, EntryList, Leaf, NoMemory, Phys, Refusal, Refused, rest};
 
 // The entries of `count` levels of both kinds, and of the values at the maximum definition level.
 fn joined(
@@ -66,38 +66,56 @@ fn truths(
     }
 }
 
-// The value of an entry at the front, if it is due, and how many bytes it takes.
+// One more entry, whose value is at the front of the bytes if it is due. Answers how many bytes that takes. Each way
+// has its own push, so that an entry is written where it stays.
 #[inline(always)]
-fn value_at(
+fn push_entry(
     alloc: Global,
     leaf: &Leaf,
+    entries: &mut EntryList,
+    rep: u16,
     def: u16,
     bytes: &[u8],
-) -> Result<(Option<Cell>, usize), Refusal>
-    ensures exact { Makes (λ v. v) result (value_at (front_cell leaf.now.phys leaf.now.prim) (def == leaf.now.def) bytes.now) }
-    ensures within { IfOk result (λ v. v.1 ≤ length bytes.now) }
+) -> Result<usize, Refusal>
+    ensures exact { Makes (λ used. (entries.new, used)) result (one_more (front_cell leaf.now.phys leaf.now.prim) leaf.now.def rep def entries.old bytes.now) }
+    ensures within { IfOk result (λ used. used ≤ length bytes.now) }
 {
     if def == leaf.def {
-        match front_cell(alloc, leaf, bytes) {
-            Ok((cell, used)) => Ok((Some(cell), used)),
-            Err(refusal) => Err(refusal),
+        let (cell, used) = match front_cell(alloc, leaf, bytes) {
+            Ok(front) => front,
+            Err(refusal) => return Err(refusal),
+        };
+        let value = Some(cell);
+        match entries.push(Entry { rep, def, value }) {
+            Ok(()) => Ok(used),
+            Err(_) => Err(Refused::NoMemory),
         }
     } else {
-        Ok((None, 0))
+        let value = None;
+        match entries.push(Entry { rep, def, value }) {
+            Ok(()) => Ok(0),
+            Err(_) => Err(Refused::NoMemory),
+        }
     }
 }
 
 // How many entries to make room for. Most values take 4 bytes or more: values that the bytes can't bear ask for no
 // more memory.
-fn room(count: usize, values: usize, len: usize) -> usize {
+fn room(count: usize, maximum: u16, defs: &Levels, bytes: &[u8]) -> usize {
+    let borne = bytes.len() / 4;
+    if count <= borne {
+        return count;
+    }
+    let values = defs.count(maximum);
     count
         .saturating_sub(values)
-        .saturating_add(values.min(len / 4))
+        .saturating_add(values.min(borne))
 }
 
 // Each value is read into its entry. It is put in line where the type is known, so that each type has a loop of its
 // own.
 #[inline(always)]
+#[tactic(auto, using(crate::proofs::ReadingInTurn::went_on, crate::proofs::ReadingInTurn::stopped))]
 fn in_turn(
     alloc: Global,
     leaf: &Leaf,
@@ -112,7 +130,7 @@ fn in_turn(
     requires small_defs { (k : ℕ) → slice_index (shown defs.now) k < 65536 }
     ensures { Makes (λ entries. entries) result (entries_in_turn (front_cell leaf.now.phys leaf.now.prim) leaf.now.def (shown reps.now) (shown defs.now) bytes.now) }
 {
-    let room = room(count, defs.count(leaf.def), bytes.len());
+    let room = room(count, leaf.def, defs, bytes);
     let mut entries = match EntryList::with_capacity(alloc, room) {
         Ok(entries) => entries,
         Err(_) => return Err(Refused::NoMemory),
@@ -121,11 +139,8 @@ fn in_turn(
     for i in 0..count {
         let rep = reps.at(i) as u16;
         let def = defs.at(i) as u16;
-        match value_at(alloc, leaf, def, rest(bytes, at)) {
-            Ok((value, used)) => match entries.push(Entry { rep, def, value }) {
-                Ok(()) => at += used,
-                Err(_) => return Err(Refused::NoMemory),
-            },
+        match push_entry(alloc, leaf, &mut entries, rep, def, rest(bytes, at)) {
+            Ok(used) => at += used,
             Err(refusal) => return Err(refusal),
         }
     }
@@ -133,6 +148,7 @@ fn in_turn(
 }
 
 /// The entries of `count` levels of both kinds, and of the values at the front of `bytes`.
+#[inline(never)]
 #[tactic(auto, using(crate::proofs::ReadingInTurn::of_type))]
 pub(crate) fn entries_of(
     alloc: Global,

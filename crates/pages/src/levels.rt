@@ -68,10 +68,16 @@ fn prefixed(bytes: &[u8]) -> Result<(&[u8], usize), Rule>
     Ok((part(bytes, 4, len), 4 + len))
 }
 
+// Whether a level is above the maximum. No test ends the loop, so that it looks at several levels at a time.
 fn passes(levels: &[u32], maximum: u16) -> bool
     ensures { result ≡ list_any (λ level. nat_lt maximum level) levels.now }
 {
-    levels.iter().any(|level| u32::from(maximum) < *level)
+    let most = u32::from(maximum);
+    let mut above = false;
+    for level in levels {
+        above |= most < *level;
+    }
+    above
 }
 
 #[tactic(auto, using(crate::proofs::Maximum::small_levels), unfolding(crate::specs::Levels::stored))]
@@ -95,12 +101,16 @@ fn listed(alloc: Global, maximum: u16, count: usize, bytes: &[u8]) -> Result<Vec
     }
 }
 
-// The memory is taken once the headers bear so many levels.
+// The memory is taken once the bytes bear so many levels. A byte bears eight that aren't in runs; for more of them the
+// headers are read first.
 fn stored(alloc: Global, maximum: u16, count: usize, bytes: &[u8]) -> Result<Vec<u32>, Refusal>
     ensures exact { Makes (λ levels. levels.items) result (stored maximum count bytes.now) }
     ensures count { IfOk result (λ levels. length levels.items ≡ count) }
     ensures small { IfOk result (λ levels. (i : ℕ) → slice_index levels.items i < 65536) }
 {
+    if count / 8 <= bytes.len() {
+        return listed(alloc, maximum, count, bytes);
+    }
     match measure(level_width(maximum), count, bytes) {
         Ok(_) => listed(alloc, maximum, count, bytes),
         Err(rule) => Err(Refused::Fault(rule)),

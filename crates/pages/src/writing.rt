@@ -60,6 +60,7 @@ fn append_levels(
     Ok(())
 }
 
+#[inline(always)]
 fn append_value(into: &mut Vec<u8>, leaf: &Leaf, entry: &Entry) -> Result<(), NoMemory>
     requires { IsEntry leaf.now entry.now }
     ensures ok { OnOk result (into.new.items ≡ into.old.items ++ value_written leaf.now.phys entry.now.value) }
@@ -71,6 +72,7 @@ fn append_value(into: &mut Vec<u8>, leaf: &Leaf, entry: &Entry) -> Result<(), No
     }
 }
 
+#[inline(always)]
 #[tactic(auto, using(vs_bytes::proofs::Growing::grows_on))]
 fn append_cells(into: &mut Vec<u8>, leaf: &Leaf, entries: &[Entry]) -> Result<(), NoMemory>
     requires { All (IsEntry leaf.now) entries.now }
@@ -120,6 +122,8 @@ fn append_truths(into: &mut Vec<u8>, alloc: Global, entries: &[Entry]) -> Result
     append(into, &bits, &cells)
 }
 
+// It is put in line where the type is known, so that integers have a loop of their own.
+#[inline(always)]
 fn append_plain(into: &mut Vec<u8>, leaf: &Leaf, entries: &[Entry]) -> Result<(), NoMemory>
     requires { All (IsEntry leaf.now) entries.now }
     ensures ok { OnOk result (into.new.items ≡ into.old.items ++ flat_map (cell_written leaf.now.phys) (values entries.now)) }
@@ -143,11 +147,18 @@ fn append_values(
 {
     match leaf.phys {
         Phys::Boolean => append_truths(into, alloc, entries),
+        Phys::Int64 => {
+            let integers = Leaf {
+                phys: Phys::Int64,
+                ..*leaf
+            };
+            append_plain(into, &integers, entries)
+        }
         _ => append_plain(into, leaf, entries),
     }
 }
 
-#[tactic(auto, using(crate::proofs::Fitting::reps_fit, crate::proofs::Fitting::reps_few, crate::proofs::Fitting::reps_short))]
+#[tactic(auto, using(crate::proofs::Fitting::reps_fit, crate::proofs::Fitting::reps_few, crate::proofs::Fitting::reps_short), unfolding(crate::specs::Written::levels_written))]
 fn append_reps(
     into: &mut Vec<u8>,
     alloc: Global,
@@ -159,11 +170,14 @@ fn append_reps(
     ensures ok { OnOk result (into.new.items ≡ into.old.items ++ levels_written leaf.now.rep (rep_levels entries.now)) }
     ensures grows { Grows into.old.items into.new.items }
 {
+    if leaf.rep == 0 {
+        return Ok(());
+    }
     let levels = rep_levels(alloc, entries)?;
     append_levels(into, alloc, leaf.rep, &levels)
 }
 
-#[tactic(auto, using(crate::proofs::Fitting::defs_fit, crate::proofs::Fitting::defs_few, crate::proofs::Fitting::defs_short))]
+#[tactic(auto, using(crate::proofs::Fitting::defs_fit, crate::proofs::Fitting::defs_few, crate::proofs::Fitting::defs_short), unfolding(crate::specs::Written::levels_written))]
 fn append_defs(
     into: &mut Vec<u8>,
     alloc: Global,
@@ -175,6 +189,9 @@ fn append_defs(
     ensures ok { OnOk result (into.new.items ≡ into.old.items ++ levels_written leaf.now.def (def_levels entries.now)) }
     ensures grows { Grows into.old.items into.new.items }
 {
+    if leaf.def == 0 {
+        return Ok(());
+    }
     let levels = def_levels(alloc, entries)?;
     append_levels(into, alloc, leaf.def, &levels)
 }
