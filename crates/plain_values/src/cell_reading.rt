@@ -36,6 +36,7 @@ fn copied(alloc: Global, bytes: &[u8]) -> Result<Cell, Refusal>
     }
 }
 
+#[inline(always)]
 #[tactic(auto, unfolding(crate::specs::Plain::text))]
 fn text(alloc: Global, bytes: &[u8]) -> Result<Cell, Refusal>
     ensures { Makes (λ c. c) result (text bytes.now) }

@@ -2,12 +2,13 @@
 
 ghost use Rattle.std.specs.Prelude.{◌≡◌};
 ghost use Rattle.vs_bytes.specs.Outcome.{Makes};
+ghost use Rattle.vs_bytes.specs.declared.leaf_columns.Phys.TheVariants as phys;
 ghost use Rattle.plain_values.specs.Plain.{front_cell, cells, plain_cells};
 
 use crate::booleans::booleans;
 use crate::cell_reading::front_cell;
 use std::alloc::Global;
-use vs_bytes::{Cells, Leaf, Phys, Refusal, Refused, rest};
+use vs_bytes::{Cells, Leaf, Phys, Prim, Refusal, Refused, rest};
 
 // Cells that are read one by one. It is put in line where the type is known, so that each type has a loop of its own.
 #[inline(always)]
@@ -34,6 +35,30 @@ fn cells(alloc: Global, leaf: &Leaf, count: usize, bytes: &[u8]) -> Result<Cells
     Ok(found)
 }
 
+// Texts have a loop of their own too.
+fn arrays(alloc: Global, leaf: &Leaf, count: usize, bytes: &[u8]) -> Result<Cells, Refusal>
+    requires { leaf.now.phys ≡ phys.ByteArray }
+    ensures { Makes (λ cells. cells) result (cells (front_cell leaf.now.phys leaf.now.prim) count bytes.now) }
+{
+    match leaf.prim {
+        Prim::Text => {
+            let texts = Leaf {
+                phys: Phys::ByteArray,
+                prim: Prim::Text,
+                ..*leaf
+            };
+            cells(alloc, &texts, count, bytes)
+        }
+        _ => {
+            let arrays = Leaf {
+                phys: Phys::ByteArray,
+                ..*leaf
+            };
+            cells(alloc, &arrays, count, bytes)
+        }
+    }
+}
+
 /// `count` cells of a leaf column from the front of `bytes`. Bytes after them are passed over.
 ///
 /// `PlainShort`: the bytes end before the last cell does. `DecimalDigits`: a decimal in bytes has none, more than
@@ -57,13 +82,7 @@ pub fn decode(alloc: Global, leaf: &Leaf, count: usize, bytes: &[u8]) -> Result<
             };
             cells(alloc, &integers, count, bytes)
         }
-        Phys::ByteArray => {
-            let arrays = Leaf {
-                phys: Phys::ByteArray,
-                ..*leaf
-            };
-            cells(alloc, &arrays, count, bytes)
-        }
+        Phys::ByteArray => arrays(alloc, leaf, count, bytes),
         _ => cells(alloc, leaf, count, bytes),
     }
 }
