@@ -66,36 +66,42 @@ fn truths(
     }
 }
 
-// One more entry, whose value is at the front of the bytes if it is due. Answers how many bytes that takes. Each way
-// has its own push, so that an entry is written where it stays.
+// One more entry, whose value is at the front of the bytes if it is due. Answers how many bytes that takes. Room is
+// made first and each way has its own push, so that an entry is written where it stays.
 #[inline(always)]
 fn push_entry(
     alloc: Global,
     leaf: &Leaf,
-    entries: &mut EntryList,
+    entries: &mut Vec<Entry>,
     rep: u16,
     def: u16,
     bytes: &[u8],
 ) -> Result<usize, Refusal>
-    ensures exact { Makes (λ used. (entries.new, used)) result (one_more (front_cell leaf.now.phys leaf.now.prim) leaf.now.def rep def entries.old bytes.now) }
+    ensures exact { Makes (λ used. (entries.new.items, used)) result (one_more (front_cell leaf.now.phys leaf.now.prim) leaf.now.def rep def entries.old.items bytes.now) }
     ensures within { IfOk result (λ used. used ≤ length bytes.now) }
 {
+    match entries.reserve(1) {
+        Ok(()) => (),
+        Err(_) => return Err(Refused::NoMemory),
+    }
     if def == leaf.def {
         let (cell, used) = match front_cell(alloc, leaf, bytes) {
             Ok(front) => front,
             Err(refusal) => return Err(refusal),
         };
-        let value = Some(cell);
-        match entries.push(Entry { rep, def, value }) {
-            Ok(()) => Ok(used),
-            Err(_) => Err(Refused::NoMemory),
-        }
+        entries.push_reserved(Entry {
+            rep,
+            def,
+            value: Some(cell),
+        });
+        Ok(used)
     } else {
-        let value = None;
-        match entries.push(Entry { rep, def, value }) {
-            Ok(()) => Ok(0),
-            Err(_) => Err(Refused::NoMemory),
-        }
+        entries.push_reserved(Entry {
+            rep,
+            def,
+            value: None,
+        });
+        Ok(0)
     }
 }
 
@@ -131,7 +137,7 @@ fn in_turn(
     ensures { Makes (λ entries. entries) result (entries_in_turn (front_cell leaf.now.phys leaf.now.prim) leaf.now.def (shown reps.now) (shown defs.now) bytes.now) }
 {
     let room = room(count, leaf.def, defs, bytes);
-    let mut entries = match EntryList::with_capacity(alloc, room) {
+    let mut entries = match Vec::with_capacity(alloc, room) {
         Ok(entries) => entries,
         Err(_) => return Err(Refused::NoMemory),
     };
@@ -144,7 +150,7 @@ fn in_turn(
             Err(refusal) => return Err(refusal),
         }
     }
-    Ok(entries)
+    Ok(EntryList::from_vec(entries))
 }
 
 /// The entries of `count` levels of both kinds, and of the values at the front of `bytes`.

@@ -8,6 +8,6 @@ use Rattle.pages.proofs.joining.in_turn.Given as goal
 -- the entries that were made, then those that are left
 abbrev pub invariant-loop-i : goal.invariant-loop-i
 invariant-loop-i l = record {
-  whole : before l.entries (entries_in_turn (front_cell l.leaf.phys l.leaf.prim) l.leaf.def (drop l.i (shown l.reps)) (drop l.i (shown l.defs)) (drop l.at l.bytes)) ≡ entries_in_turn (front_cell l.leaf.phys l.leaf.prim) l.leaf.def (shown l.reps) (shown l.defs) l.bytes;
+  whole : before l.entries.items (entries_in_turn (front_cell l.leaf.phys l.leaf.prim) l.leaf.def (drop l.i (shown l.reps)) (drop l.i (shown l.defs)) (drop l.at l.bytes)) ≡ entries_in_turn (front_cell l.leaf.phys l.leaf.prim) l.leaf.def (shown l.reps) (shown l.defs) l.bytes;
   inside : l.at ≤ length l.bytes;
 }
