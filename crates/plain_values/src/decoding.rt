@@ -16,23 +16,26 @@ fn cells(alloc: Global, leaf: &Leaf, count: usize, bytes: &[u8]) -> Result<Cells
     ensures { Makes (λ cells. cells) result (cells (front_cell leaf.now.phys leaf.now.prim) count bytes.now) }
 {
     // Most cells take 4 bytes or more. A count that the bytes can't bear asks for no more memory.
-    let mut found = match Cells::with_capacity(alloc, count.min(bytes.len() / 4)) {
+    let mut found = match Vec::with_capacity(alloc, count.min(bytes.len() / 4)) {
         Ok(room) => room,
         Err(_) => return Err(Refused::NoMemory),
     };
     let mut at = 0;
     for _i in 0..count {
+        // Room is made first, so that a cell is written where it stays.
+        match found.reserve(1) {
+            Ok(()) => (),
+            Err(_) => return Err(Refused::NoMemory),
+        }
         match front_cell(alloc, leaf, rest(bytes, at)) {
             Ok((cell, used)) => {
-                match found.push(cell) {
-                    Ok(()) => at += used,
-                    Err(_) => return Err(Refused::NoMemory),
-                }
+                found.push_reserved(cell);
+                at += used;
             }
             Err(refusal) => return Err(refusal),
         }
     }
-    Ok(found)
+    Ok(Cells::from_vec(found))
 }
 
 // Texts have a loop of their own too.

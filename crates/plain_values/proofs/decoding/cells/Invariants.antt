@@ -6,6 +6,6 @@ use Rattle.plain_values.proofs.decoding.cells.Given as goal
 -- the cells in front, then those that are left
 abbrev pub invariant-loop-i : goal.invariant-loop-i
 invariant-loop-i l = record {
-  whole : joined l.found (cells (front_cell l.leaf.phys l.leaf.prim) (l.count - l._i) (drop l.at l.bytes)) ≡ cells (front_cell l.leaf.phys l.leaf.prim) l.count l.bytes;
+  whole : joined l.found.items (cells (front_cell l.leaf.phys l.leaf.prim) (l.count - l._i) (drop l.at l.bytes)) ≡ cells (front_cell l.leaf.phys l.leaf.prim) l.count l.bytes;
   inside : l.at ≤ length l.bytes;
 }
