@@ -67,6 +67,7 @@ fn append_decimal(into: &mut Vec<u8>, number: i128) -> Result<(), NoMemory>
     append_big(into, 16, number)
 }
 
+#[inline(always)]
 #[tactic(auto, unfolding(crate::specs::Written::array_written))]
 fn append_bytes(into: &mut Vec<u8>, bytes: &[u8]) -> Result<(), NoMemory>
     requires { IsShort bytes.now }
@@ -78,6 +79,7 @@ fn append_bytes(into: &mut Vec<u8>, bytes: &[u8]) -> Result<(), NoMemory>
     Ok(())
 }
 
+#[inline(always)]
 #[tactic(auto, using(crate::proofs::Sizes::array_decimal, crate::proofs::Sizes::array_short), unfolding(crate::specs::Written::array_written))]
 fn append_array(into: &mut Vec<u8>, kind: Prim, cell: &Cell) -> Result<(), NoMemory>
     requires { IsArray kind cell.now }
