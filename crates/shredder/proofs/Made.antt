@@ -25,6 +25,9 @@ record_turn records made x xs all h e =
     ∙ ap (λ (y : Rec). map rec_of records ++ y ∷ xs) e
     ∙ h
 
+pub record_made : (records more : List Record) (made : Record) (x : Rec) (xs all : List Rec) → more ≡ records ++ made ∷ [] → map rec_of records ++ x ∷ xs ≡ all → rec_of made ≡ x → map rec_of more ++ xs ≡ all
+record_made records more made x xs all is h e = ap (λ (l : List Record). map rec_of l ++ xs) is ∙ record_turn records made x xs all h e
+
 pub records_whole : (records : List Record) (left : List Rec) (all : Recs) → map rec_of records ++ left ≡ recs_in all → left ≡ [] → recs_from (map rec_of records) ≡ all
 records_whole records left all h e =
     let whole : map rec_of records ≡ recs_in all = sym (append-nil (map rec_of records)) ∙ ap (λ (l : List Rec). map rec_of records ++ l) (sym e) ∙ h in

@@ -1,1 +1,2 @@
 pub mod Shredded
+pub mod Taken

@@ -6,9 +6,11 @@
 //! |---|---|
 //! | `left` | what stands in `value` |
 //! | `records` | `shred`: a record, node by node |
+//! | `taking` | the members that fields take, and those that are left over |
 #![tactic(auto)]
 
 mod left;
 mod records;
+mod taking;
 
 pub use records::shred;
