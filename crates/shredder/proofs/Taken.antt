@@ -1,10 +1,11 @@
 -- What is kept of members that fields take.
-use Rattle.std.proofs.Common.{◌≡◌, ◌∙◌, ℕ, suc, zero, ◌<◌, Bool, true, false, not, ◌&&◌, ◌||◌, List, [], ◌∷◌, length, set, get_or, map, refl, sym, ap, arith, Ordering, Less, Equal, Greater, Some, None, cond}
+use Rattle.std.proofs.Common.{◌≡◌, ◌∙◌, ℕ, suc, zero, ◌+◌, ◌<◌, ◌≤◌, inl, inr, subst, Bool, true, false, not, ◌&&◌, ◌||◌, List, [], ◌∷◌, length, set, get_or, map, refl, sym, ap, arith, Ordering, Less, Equal, Greater, Some, None, cond}
 use Rattle.std.specs.Prelude.{bytes_eq}
 use Rattle.std.specs.Cmp.{IsTotalOrder}
 use Rattle.std.specs.Cmp.Lexicographic.{texts_ties}
 use Rattle.std.specs.List.{HoldsAt}
 use Rattle.std.specs.Ordering.{is_eq, ordering_reverse}
+use Rattle.std.proofs.lemmas.Bool.{cases_lt}
 use Rattle.std.proofs.lemmas.Cmp.{nat_list_cmp_total}
 use Rattle.std.proofs.lemmas.List.{length-map}
 use Rattle.std.proofs.lemmas.Map.Keys.{sorted_tail, Less-from_sorted}
@@ -19,7 +20,7 @@ use Rattle.json_tree.proofs.MembersMade.{names, name_at}
 use Rattle.json_tree.proofs.NameSearch.{got, missed_member}
 use Rattle.shred_schema.specs.Groups.{Group, Groups, no_groups, field}
 use Rattle.shredder.specs.Shredded.{is_named, unnamed}
-use Rattle.shredder.specs.Taken.{without, without_all, IsAt, IsNowhere}
+use Rattle.shredder.specs.Taken.{without, without_all, IsAt, IsApart, IsPast, IsNowhere}
 
 -- ---- names
 
@@ -107,6 +108,23 @@ nowhere_from name (q ∷ ps) e = by (bytes_eq q.0 name) refl e (nowhere_from nam
     by : (b : Bool) → bytes_eq q.0 name ≡ b → None ≡ cond b (Some (view q.1)) (member_of name (fields_of (map seen ps))) → (None ≡ member_of name (fields_of (map seen ps)) → IsNowhere name ps) → IsNowhere name (q ∷ ps)
     by true h f rest = absurd cc
     by false h f rest = record { apart = nowhere_in name q ps h (rest f) }
+
+pub apart_past : (name : List ℕ) (ps : List (List ℕ × Tree)) (place : ℕ) → length ps ≤ place → IsApart name ps place
+apart_past name ps place beyond = record { other = λ p within. absurd (omega (arith, beyond, within)) }
+
+pub past_none : (name : List ℕ) (ps : List (List ℕ × Tree)) → IsPast name ps 0
+past_none name ps = record { each = λ k within. absurd (omega (arith, within)) }
+
+pub past_more : (name : List ℕ) (ps : List (List ℕ × Tree)) (place : ℕ) → IsPast name ps place → IsApart name ps place → IsPast name ps (place + 1)
+past_more name ps place past here = record {
+  each = λ k within. elim (cases_lt k place) [
+    | inl before ↦ past.each k before
+    | inr behind ↦ (let is : place ≡ k = omega (arith, within, behind) in subst (IsApart name ps) is here)
+  ];
+}
+
+pub past_all : (name : List ℕ) (ps : List (List ℕ × Tree)) (place : ℕ) → IsPast name ps place → length ps ≤ place → IsNowhere name ps
+past_all name ps place past beyond = record { apart = λ k p within. (past.each k (omega (arith, beyond, within))).other p within }
 
 -- ---- what is kept
 

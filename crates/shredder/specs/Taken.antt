@@ -21,6 +21,14 @@ pub record IsAt (name : List ℕ) (pairs : List (List ℕ × Tree)) (i : ℕ) : 
   pub inside : i < length pairs
   pub same : (pair : List ℕ × Tree) → bytes_eq (get_or pairs i pair).0 name ≡ true
 
+-- no member of the name stands at a place
+pub record IsApart (name : List ℕ) (pairs : List (List ℕ × Tree)) (place : ℕ) : Type 0 where
+  pub other : (pair : List ℕ × Tree) → place < length pairs → bytes_eq (get_or pairs place pair).0 name ≡ false
+
+-- nor at one before it
+pub record IsPast (name : List ℕ) (pairs : List (List ℕ × Tree)) (place : ℕ) : Type 0 where
+  pub each : (k : ℕ) → k < place → IsApart name pairs k
+
 -- no member has the name
 pub record IsNowhere (name : List ℕ) (pairs : List (List ℕ × Tree)) : Type 0 where
   pub apart : (k : ℕ) (pair : List ℕ × Tree) → k < length pairs → bytes_eq (get_or pairs k pair).0 name ≡ false

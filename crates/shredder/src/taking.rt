@@ -1,6 +1,6 @@
 //! Members that fields take.
 
-ghost use Rattle.std.specs.Prelude.{◌≡◌, length, map, IfOk, IsTrue};
+ghost use Rattle.std.specs.Prelude.{◌≡◌, length, map, IfOk, IsTrue, IsFalse};
 ghost use Rattle.std.specs.Cmp.Lexicographic.{slice_cmp};
 ghost use Rattle.std.specs.Option.{option_map};
 ghost use Rattle.std.specs.Ordering.{nat_cmp};
@@ -9,12 +9,15 @@ ghost use Rattle.json_tree.specs.Order.{NamesRise, member_of};
 ghost use Rattle.json_tree.specs.View.{view, seen};
 ghost use Rattle.shred_schema.specs.Groups.{no_groups};
 ghost use Rattle.shredder.specs.Shredded.{unnamed};
-ghost use Rattle.shredder.specs.Taken.{without, IsAt, IsPlace};
+ghost use Rattle.shredder.specs.Taken.{without, IsAt, IsApart, IsPlace};
 
 use json_tree::{Members, Tree};
 use std::alloc::Global;
 use std::cmp::Ordering;
 use vs_bytes::{NoMemory, Text};
+
+// Among so few members looking at one after the other takes less time than a binary search.
+const FEW: usize = 8;
 
 /// Of each member of an object, whether no field has taken it yet.
 #[derive(Drop)]
@@ -71,17 +74,35 @@ fn place(pairs: &[(Text, Tree)], name: &Text, guess: usize) -> Option<usize>
     if is_at(pairs, name, guess) {
         return Some(guess);
     }
+    if pairs.len() <= FEW {
+        return scan(pairs, name);
+    }
     search(pairs, name)
 }
 
 // Whether the member of that name is there.
+#[tactic(auto, using(crate::proofs::Taken::apart_past))]
 fn is_at(pairs: &[(Text, Tree)], name: &Text, place: usize) -> bool
-    ensures { IsTrue result → IsAt name.now pairs.now place }
+    ensures at { IsTrue result → IsAt name.now pairs.now place }
+    ensures apart { IsFalse result → IsApart name.now pairs.now place }
 {
     if place >= pairs.len() {
         return false;
     }
     pairs[place].0.as_bytes() == name.as_bytes()
+}
+
+// Looks at one member after the other.
+#[tactic(auto, using(crate::proofs::Taken::past_none, crate::proofs::Taken::past_more, crate::proofs::Taken::past_all))]
+fn scan(pairs: &[(Text, Tree)], name: &Text) -> Option<usize>
+    ensures { IsPlace name.now pairs.now result }
+{
+    for place in 0..pairs.len() {
+        if is_at(pairs, name, place) {
+            return Some(place);
+        }
+    }
+    None
 }
 
 fn search(pairs: &[(Text, Tree)], name: &Text) -> Option<usize>
