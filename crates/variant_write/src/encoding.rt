@@ -64,9 +64,20 @@ fn append_value(
     ensures ok { OnOk result (into.new.items ≡ into.old.items ++ coded dict.now (view tree.now) widths) }
     ensures grows { Grows into.old.items into.new.items }
 {
-    let mut spare = Vec::with_capacity(*into.allocator(), SPARE_ROOM)?;
-    let mut ends = Vec::with_capacity(*into.allocator(), ENDS_ROOM)?;
+    let alloc = *into.allocator();
+    let (spare_room, ends_room) = room(tree);
+    let mut spare = Vec::with_capacity(alloc, spare_room)?;
+    let mut ends = Vec::with_capacity(alloc, ends_room)?;
     append(into, &mut spare, &mut ends, dict, tree, widths)
+}
+
+// The room for items and their ends. A value that holds no others needs none.
+fn room(tree: &Tree) -> (usize, usize) {
+    match tree {
+        Tree::Array(_) => (SPARE_ROOM, ENDS_ROOM),
+        Tree::Object(_) => (SPARE_ROOM, ENDS_ROOM),
+        _ => (0, 0),
+    }
 }
 
 /// The ends from the place `first` on.
