@@ -1,6 +1,6 @@
 //! What stands in `value`.
 
-ghost use Rattle.std.specs.Prelude.{◌≡◌, ◌≤◌, length, IfOk};
+ghost use Rattle.std.specs.Prelude.{◌≡◌, ◌≤◌, [], length, IfOk, OnOk};
 ghost use Rattle.std.specs.List.{list_any};
 ghost use Rattle.json_tree.specs.Json.{object, names_of};
 ghost use Rattle.json_tree.specs.Text.{text_of};
@@ -17,6 +17,18 @@ use variant_meta::Dictionary;
 use variant_write::{Widths, encode, encode_members};
 use vs_bytes::{Bytes, NoMemory};
 
+// The room for a value that is taken at first: enough for most values, so that it need not grow.
+const ROOM: usize = 256;
+
+// Takes the room when the first value is written, since most records have no value that stands in `value`.
+fn make_room(scratch: &mut Vec<u8>) -> Result<(), NoMemory>
+    ensures { OnOk result (scratch.new.items ≡ []) }
+{
+    scratch.clear();
+    scratch.reserve(ROOM)?;
+    Ok(())
+}
+
 /// A value that stands in `value`, whole. It is written to `scratch` first, in place of what is there.
 pub(crate) fn whole_left(
     alloc: Global,
@@ -30,7 +42,7 @@ pub(crate) fn whole_left(
     requires widths { IsWidths widths }
     ensures { IfOk result (λ made. rec_of made ≡ whole_left (by_names dict.now widths) (view tree.now)) }
 {
-    scratch.clear();
+    make_room(scratch)?;
     encode(scratch, dict, tree, widths)?;
     Ok(Record {
         value: Some(Bytes::from_slice(alloc, scratch.as_slice())?),
@@ -70,7 +82,7 @@ pub(crate) fn members_left(
     if !is_any_kept(kept) {
         return Ok(None);
     }
-    scratch.clear();
+    make_room(scratch)?;
     encode_members(scratch, dict, members, kept, widths)?;
     Ok(Some(Bytes::from_slice(alloc, scratch.as_slice())?))
 }
