@@ -3,5 +3,7 @@ pub mod Apart
 pub mod Fields
 pub mod Members
 pub mod NoNames
+pub mod NodesRead
 pub mod Parts
+pub mod ValuesRead
 pub mod Walks

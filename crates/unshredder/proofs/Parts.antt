@@ -1,10 +1,10 @@
 -- The typed part of a list, and what of it its items inherit.
 use Rattle.std.proofs.Common.{rules, arith, ◌≤◌, ◌≡◌, ◌∙◌, sym, ap, subst, ℕ, ◌+◌, ◌<◌, ◌^◌, List, map, option_map, Option, Some}
-use Rattle.shred_schema.specs.Groups.{Group, Kind, list_of, width, kind_width, nesting, kind_nesting}
+use Rattle.shred_schema.specs.Groups.{Group, Kind, object_of, list_of, Groups, width, kind_width, groups_width, nesting, kind_nesting, groups_nesting}
 use Rattle.shred_schema.specs.Recs.{RecPart, Recs, items, fields, recs_from, EachRec}
-use Rattle.shred_schema.specs.Lawful.{AreNodes, EachIn, HasEither, MayHold}
+use Rattle.shred_schema.specs.Lawful.{AreNodes, IsObject, EachIn, EachField, HasEither, MayHold}
 use Rattle.variant_read.specs.Meaning.{max_nesting}
-use Rattle.shred_schema.specs.Shapes.{HasShape, PartHasShape}
+use Rattle.shred_schema.specs.Shapes.{HasShape, PartHasShape, FieldsHaveShape}
 use Rattle.shred_schema.specs.Views.{part_of, part_or_empty, rec_of}
 use Rattle.shred_schema.specs.declared.records.Part.{Part, the_lemmas}
 use Rattle.shred_schema.specs.declared.records.Part.TheVariants as code
@@ -33,3 +33,17 @@ list_nodes t n e h = subst (EachIn HasEither MayHold) e h
 
 pub list_deep : (t : Kind) (n : Group) (above : ℕ) → t ≡ list_of n → above + kind_nesting t ≤ max_nesting → above + nesting n + 1 ≤ max_nesting
 list_deep t n above e h = omega (arith, ap kind_nesting e, h)
+
+-- the same of the fields of an object
+
+pub object_nodes : (t : Kind) (gs : Groups) → t ≡ object_of gs → EachIn HasEither MayHold t → IsObject gs × EachField HasEither MayHold gs
+object_nodes t gs e h = subst (EachIn HasEither MayHold) e h
+
+pub object_shape : (t : Kind) (p : RecPart) (gs : Groups) (xs : Recs) → t ≡ object_of gs → p ≡ fields xs → PartHasShape t p → FieldsHaveShape gs xs
+object_shape t p gs xs e f h = subst (λ (k : Kind). PartHasShape k (fields xs)) e (subst (PartHasShape t) f h)
+
+pub object_leaves : (t : Kind) (gs : Groups) (leaf : ℕ) → t ≡ object_of gs → leaf + kind_width t < 2 ^ 32 → leaf + groups_width gs < 2 ^ 32
+object_leaves t gs leaf e h = subst (λ (k : Kind). leaf + kind_width k < 2 ^ 32) e h
+
+pub object_deep : (t : Kind) (gs : Groups) (above : ℕ) → t ≡ object_of gs → above + kind_nesting t ≤ max_nesting → above + groups_nesting gs + 1 ≤ max_nesting
+object_deep t gs above e h = omega (arith, ap kind_nesting e, h)

@@ -1,3 +1,4 @@
 pub mod Merging
+pub mod Readings
 pub mod Rows
 pub mod Seen

@@ -9,13 +9,16 @@
 //! | `merging` | what the value and the typed part of one node mean together |
 //! | `records` | records, node by node |
 //! | `needing` | whether the names of a row's metadata are needed |
-//! | `rows` | `unshred`: a row |
+//! | `readings` | `Reading`: how each node is read under a mask |
+//! | `rows` | `unshred`: a row; `Reading::new`, `Reading::row`: many of them |
 #![tactic(auto)]
 
 mod leaves;
 mod merging;
 mod needing;
+mod readings;
 mod records;
 mod rows;
 
+pub use readings::Reading;
 pub use rows::unshred;

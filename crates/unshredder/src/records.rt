@@ -15,12 +15,13 @@ ghost use Rattle.shred_schema.specs.Recs.{recs_from, EachRec};
 ghost use Rattle.shred_schema.specs.Shapes.{HasShape, PartHasShape, FieldsHaveShape};
 ghost use Rattle.shred_schema.specs.Views.{group_of, kind_of, rec_of, part_of, part_or_empty, named};
 ghost use Rattle.unshredder.specs.Merging.{with_fields, with_items};
+ghost use Rattle.unshredder.specs.Readings.{IsReading, AreInside, AreReadings};
 ghost use Rattle.unshredder.specs.Seen.{seen, typed_seen, fields_seen, items_seen, is_tested, ahead};
 
-use crate::leaves::{is_any_read, is_tested};
 use crate::merging::{left_over, put_member, value_seen, whole, with_cell, without_fields};
+use crate::readings::Reading;
 use json_tree::{Items, Members, Tree};
-use shred_schema::{Node, Part, Record, Typed, slot_width, typed_width, width};
+use shred_schema::{Node, Part, Record, Typed, slot_width};
 use std::alloc::Global;
 use variant_meta::MetaRef;
 use variant_read::ValueRef;
@@ -32,6 +33,7 @@ use vs_bytes::{Refusal, Rule, Text};
 pub(crate) fn seen(
     alloc: Global,
     mask: &[bool],
+    reading: &Reading,
     meta: &MetaRef,
     node: &Node,
     leaf: usize,
@@ -41,15 +43,17 @@ pub(crate) fn seen(
     requires nodes { AreNodes (group_of node.now) }
     requires shape { HasShape (group_of node.now) (rec_of rec.now) }
     requires leaves { leaf + width (group_of node.now) < 2 ^ 32 }
+    requires reading { IsReading (reads mask.now) (group_of node.now) leaf reading.now }
     requires deep { above + nesting (group_of node.now) ≤ max_nesting }
     ensures { Makes (option_map view) result (seen (reads mask.now) (names_of meta.now) (group_of node.now) leaf above (rec_of rec.now)) }
 {
     let first = slot_width(node.value);
-    let value = value_seen(*meta, above, is_any_read(mask, leaf, first), &rec.value)?;
-    if is_any_read(mask, leaf + first, typed_width(&node.typed)) {
+    let value = value_seen(*meta, above, reading.value, &rec.value)?;
+    if reading.typed {
         typed_seen(
             alloc,
             mask,
+            reading.inside.as_slice(),
             meta,
             &node.typed,
             leaf + first,
@@ -67,6 +71,7 @@ pub(crate) fn seen(
 fn typed_seen(
     alloc: Global,
     mask: &[bool],
+    inside: &[Reading],
     meta: &MetaRef,
     typed: &Typed,
     leaf: usize,
@@ -77,6 +82,7 @@ fn typed_seen(
     requires nodes { EachIn HasEither MayHold (kind_of typed.now) }
     requires shape { PartHasShape (kind_of typed.now) (part_or_empty (option_map part_of part.now)) }
     requires leaves { leaf + kind_width (kind_of typed.now) < 2 ^ 32 }
+    requires readings { AreInside (reads mask.now) (kind_of typed.now) leaf inside.now }
     requires deep { above + kind_nesting (kind_of typed.now) ≤ max_nesting }
     ensures { Makes (option_map view) result (typed_seen (reads mask.now) (names_of meta.now) (kind_of typed.now) leaf above (option_map json_of value.entry) (part_or_empty (option_map part_of part.now))) }
 {
@@ -94,6 +100,7 @@ fn typed_seen(
                 Part::Fields(records) => with_fields(
                     alloc,
                     mask,
+                    inside,
                     meta,
                     fields.as_slice(),
                     leaf,
@@ -110,6 +117,7 @@ fn typed_seen(
                 Part::Items(records) => with_items(
                     alloc,
                     mask,
+                    &inside[0],
                     meta,
                     node.get(),
                     leaf,
@@ -130,6 +138,7 @@ fn typed_seen(
 fn with_fields(
     alloc: Global,
     mask: &[bool],
+    readings: &[Reading],
     meta: &MetaRef,
     fields: &[(Text, Node)],
     leaf: usize,
@@ -141,11 +150,22 @@ fn with_fields(
     requires nodes { EachField HasEither MayHold (groups_from (map named fields.now)) }
     requires shape { FieldsHaveShape (groups_from (map named fields.now)) (recs_from (map rec_of records.now)) }
     requires leaves { leaf + groups_width (groups_from (map named fields.now)) < 2 ^ 32 }
+    requires readings { AreReadings (reads mask.now) (groups_from (map named fields.now)) leaf readings.now }
     requires deep { above + groups_nesting (groups_from (map named fields.now)) + 1 ≤ max_nesting }
     ensures { Makes (option_map view) result (with_fields (groups_from (map named fields.now)) (option_map json_of value.entry) (fields_seen (reads mask.now) (names_of meta.now) (groups_from (map named fields.now)) leaf (above + 1) (recs_from (map rec_of records.now)))) }
 {
     let left = left_over(alloc, fields, value)?;
-    let pairs = fields_seen(alloc, mask, meta, fields, leaf, above + 1, left, records)?;
+    let pairs = fields_seen(
+        alloc,
+        mask,
+        readings,
+        meta,
+        fields,
+        leaf,
+        above + 1,
+        left,
+        records,
+    )?;
     match Members::from_pairs(pairs) {
         Ok(members) => Ok(Some(Tree::Object(members))),
         Err(_) => unreachable!(),
@@ -157,6 +177,7 @@ fn with_fields(
 fn fields_seen(
     alloc: Global,
     mask: &[bool],
+    readings: &[Reading],
     meta: &MetaRef,
     fields: &[(Text, Node)],
     leaf: usize,
@@ -167,6 +188,7 @@ fn fields_seen(
     requires nodes { EachField HasEither MayHold (groups_from (map named fields.now)) }
     requires shape { FieldsHaveShape (groups_from (map named fields.now)) (recs_from (map rec_of records.now)) }
     requires leaves { leaf + groups_width (groups_from (map named fields.now)) < 2 ^ 32 }
+    requires readings { AreReadings (reads mask.now) (groups_from (map named fields.now)) leaf readings.now }
     requires deep { above + groups_nesting (groups_from (map named fields.now)) ≤ max_nesting }
     ensures { Makes (λ pairs. map pair_seen pairs.items) result (ahead (map pair_seen left.items) (fields_seen (reads mask.now) (names_of meta.now) (groups_from (map named fields.now)) leaf above (recs_from (map rec_of records.now)))) }
 {
@@ -174,14 +196,42 @@ fn fields_seen(
     let mut first = leaf;
     for k in 0..fields.len() {
         let node = &fields[k].1;
-        let found = match seen(alloc, mask, meta, node, first, above, &records[k]) {
+        let reading = &readings[k];
+        let found = match field_seen(alloc, mask, reading, meta, node, first, above, &records[k]) {
             Ok(found) => found,
             Err(refused) => return Err(refused),
         };
         put_member(alloc, &fields[k].0, found, &mut left)?;
-        first += width(node);
+        first += reading.leaves;
     }
     Ok(left)
+}
+
+// A field, which tells nothing where no leaf of it is read.
+#[cycle(seen)]
+#[inline(always)]
+fn field_seen(
+    alloc: Global,
+    mask: &[bool],
+    reading: &Reading,
+    meta: &MetaRef,
+    node: &Node,
+    leaf: usize,
+    above: u8,
+    rec: &Record,
+) -> Result<Option<Tree>, Refusal>
+    requires nodes { AreNodes (group_of node.now) }
+    requires shape { HasShape (group_of node.now) (rec_of rec.now) }
+    requires leaves { leaf + width (group_of node.now) < 2 ^ 32 }
+    requires reading { IsReading (reads mask.now) (group_of node.now) leaf reading.now }
+    requires deep { above + nesting (group_of node.now) ≤ max_nesting }
+    ensures { Makes (option_map view) result (seen (reads mask.now) (names_of meta.now) (group_of node.now) leaf above (rec_of rec.now)) }
+{
+    if reading.value || reading.typed {
+        seen(alloc, mask, reading, meta, node, leaf, above, rec)
+    } else {
+        Ok(None)
+    }
 }
 
 // A list, beside which no value may stand.
@@ -190,6 +240,7 @@ fn fields_seen(
 fn with_items(
     alloc: Global,
     mask: &[bool],
+    reading: &Reading,
     meta: &MetaRef,
     node: &Node,
     leaf: usize,
@@ -200,6 +251,7 @@ fn with_items(
     requires nodes { AreNodes (group_of node.now) }
     requires shape { EachRec (HasShape (group_of node.now)) (recs_from (map rec_of records.now)) }
     requires leaves { leaf + width (group_of node.now) < 2 ^ 32 }
+    requires reading { IsReading (reads mask.now) (group_of node.now) leaf reading.now }
     requires deep { above + nesting (group_of node.now) + 1 ≤ max_nesting }
     ensures { Makes (option_map view) result (with_items (option_map json_of value.entry) (items_seen (is_tested (reads mask.now) leaf (group_of node.now)) (seen (reads mask.now) (names_of meta.now) (group_of node.now) leaf (above + 1)) (recs_from (map rec_of records.now)))) }
 {
@@ -208,6 +260,7 @@ fn with_items(
         None => Ok(Some(Tree::Array(items_seen(
             alloc,
             mask,
+            reading,
             meta,
             node,
             leaf,
@@ -223,6 +276,7 @@ fn with_items(
 fn items_seen(
     alloc: Global,
     mask: &[bool],
+    reading: &Reading,
     meta: &MetaRef,
     node: &Node,
     leaf: usize,
@@ -232,16 +286,16 @@ fn items_seen(
     requires nodes { AreNodes (group_of node.now) }
     requires shape { EachRec (HasShape (group_of node.now)) (recs_from (map rec_of records.now)) }
     requires leaves { leaf + width (group_of node.now) < 2 ^ 32 }
+    requires reading { IsReading (reads mask.now) (group_of node.now) leaf reading.now }
     requires deep { above + nesting (group_of node.now) ≤ max_nesting }
     ensures { Makes items_of result (items_seen (is_tested (reads mask.now) leaf (group_of node.now)) (seen (reads mask.now) (names_of meta.now) (group_of node.now) leaf above) (recs_from (map rec_of records.now))) }
 {
-    let tested = is_tested(mask, leaf, node);
     let mut trees = Vec::with_capacity(alloc, records.len())?;
     for rec in records {
-        match seen(alloc, mask, meta, node, leaf, above, rec)? {
+        match seen(alloc, mask, reading, meta, node, leaf, above, rec)? {
             Some(tree) => trees.push(tree)?,
             None => {
-                if tested {
+                if reading.tested {
                     return Err(Refusal::Fault(Rule::ElementMissing));
                 }
                 trees.push(Tree::Null)?;

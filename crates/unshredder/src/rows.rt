@@ -1,6 +1,6 @@
 //! Rows.
 
-ghost use Rattle.std.specs.Prelude.{◌≡◌, ◌+◌, ◌≤◌};
+ghost use Rattle.std.specs.Prelude.{◌≡◌, ◌+◌, ◌≤◌, IfOk};
 ghost use Rattle.std.specs.Option.{option_map};
 ghost use Rattle.json_tree.specs.View.{view};
 ghost use Rattle.vs_bytes.specs.Outcome.{Gives, Makes};
@@ -9,15 +9,17 @@ ghost use Rattle.shred_schema.specs.Lawful.{IsWellFormed};
 ghost use Rattle.shred_schema.specs.Ranges.{reads};
 ghost use Rattle.shred_schema.specs.Shapes.{RowHasShape};
 ghost use Rattle.shred_schema.specs.Views.{group_of, row_rec_of};
+ghost use Rattle.unshredder.specs.Readings.{IsReading};
 ghost use Rattle.unshredder.specs.Rows.{names_needed, row_seen};
 
 use crate::needing::has_value;
+use crate::readings::{Reading, reading_of};
 use crate::records::seen;
 use json_tree::Tree;
 use shred_schema::{Column, Mask, RowRecord};
 use std::alloc::Global;
 use variant_meta::MetaRef;
-use vs_bytes::{Refusal, Rule};
+use vs_bytes::{NoMemory, Refusal, Rule};
 
 // The metadata of no names.
 const NO_NAMES: &[u8] = &[0x11, 0, 0];
@@ -33,13 +35,60 @@ fn names_needed(needed: bool, meta: &[u8]) -> Result<MetaRef<'_>, Rule>
     }
 }
 
+impl Reading {
+    /// How the rows of a column are read under a mask, which says of each leaf whether it is read, in their order.
+    pub fn new(alloc: Global, column: &Column, mask: &Mask) -> Result<Reading, NoMemory>
+        requires { IsWellFormed (group_of column.now.node) }
+        ensures { IfOk result (λ reading. IsReading (reads mask.now) (group_of column.now.node) 1 reading) }
+    {
+        reading_of(alloc, mask.as_slice(), &column.node, 1)
+    }
+
+    /// The row of a row record, as `unshred` gives it. The column and the mask are those that `new` was given.
+    #[tactic(auto, unfolding(crate::specs::Rows::row_seen))]
+    pub fn row(
+        &self,
+        alloc: Global,
+        column: &Column,
+        row: &RowRecord,
+        mask: &Mask,
+    ) -> Result<Option<Tree>, Refusal>
+        requires column { IsWellFormed (group_of column.now.node) }
+        requires reading { IsReading (reads mask.now) (group_of column.now.node) 1 self.now }
+        requires row { RowHasShape (group_of column.now.node) (row_rec_of row.now) }
+        ensures { Makes (option_map view) result (row_seen (reads mask.now) (group_of column.now.node) (row_rec_of row.now)) }
+    {
+        match row {
+            RowRecord::Absent => Ok(None),
+            RowRecord::Present { meta, rec } => {
+                let needed = has_value(mask.as_slice(), self, &column.node, 1, rec);
+                let names = names_needed(needed, meta.as_slice())?;
+                match seen(
+                    alloc,
+                    mask.as_slice(),
+                    self,
+                    &names,
+                    &column.node,
+                    1,
+                    0,
+                    rec,
+                )? {
+                    Some(tree) => Ok(Some(tree)),
+                    None => Ok(Some(Tree::Null)),
+                }
+            }
+        }
+    }
+}
+
 /// The row of a row record, or the first rule that it violates (VariantShredding.md, "Reconstructing a Shredded
 /// Variant"). `None` where the row is absent.
 ///
 /// `mask` says of each leaf whether it is read, in their order. A value or typed part that isn't read counts as missing,
 /// and no rule is tested that rests on it. The metadata is judged wherever a value that is read is there, so a mask that
 /// reads a value reads leaf 0 too.
-#[tactic(auto, unfolding(crate::specs::Rows::row_seen))]
+///
+/// For many rows of a column, make a `Reading` once.
 pub fn unshred(
     alloc: Global,
     column: &Column,
@@ -50,15 +99,6 @@ pub fn unshred(
     requires row { RowHasShape (group_of column.now.node) (row_rec_of row.now) }
     ensures { Makes (option_map view) result (row_seen (reads mask.now) (group_of column.now.node) (row_rec_of row.now)) }
 {
-    match row {
-        RowRecord::Absent => Ok(None),
-        RowRecord::Present { meta, rec } => {
-            let needed = has_value(mask.as_slice(), &column.node, 1, rec);
-            let names = names_needed(needed, meta.as_slice())?;
-            match seen(alloc, mask.as_slice(), &names, &column.node, 1, 0, rec)? {
-                Some(tree) => Ok(Some(tree)),
-                None => Ok(Some(Tree::Null)),
-            }
-        }
-    }
+    let reading = Reading::new(alloc, column, mask)?;
+    reading.row(alloc, column, row, mask)
 }

@@ -4,6 +4,7 @@ use Rattle.shred_schema.specs.Ranges.{reads}
 use Rattle.shred_schema.specs.Recs.{recs_from, EachRec}
 use Rattle.shred_schema.specs.Shapes.{HasShape, FieldsHaveShape}
 use Rattle.shred_schema.specs.Views.{group_of, kind_of, rec_of, named}
+use Rattle.unshredder.specs.Readings.{AreReadings}
 use Rattle.unshredder.specs.Rows.{has_value, fields_have_value, any_rec}
 use Rattle.unshredder.proofs.needing.+needing.Given as goal
 
@@ -25,6 +26,7 @@ abbrev pub invariant-fields_have_value-loop-k : goal.invariant-fields_have_value
 invariant-fields_have_value-loop-k l = record {
   shape : FieldsHaveShape (groups_from (map named (drop l.k l.fields))) (recs_from (map rec_of (drop l.k l.records)));
   leaves : l.first + groups_width (groups_from (map named (drop l.k l.fields))) < 2 ^ 32;
+  readings : AreReadings (reads l.mask) (groups_from (map named (drop l.k l.fields))) l.first (drop l.k l.readings);
   nesting : groups_nesting (groups_from (map named (drop l.k l.fields))) ≤ groups_nesting (groups_from (map named l.fields));
   same : fields_have_value (reads l.mask) (groups_from (map named (drop l.k l.fields))) l.first (recs_from (map rec_of (drop l.k l.records))) ≡ fields_have_value (reads l.mask) (groups_from (map named l.fields)) l.leaf (recs_from (map rec_of l.records));
 }
