@@ -2,6 +2,7 @@ pub mod Ahead
 pub mod Apart
 pub mod Fields
 pub mod Members
+pub mod Moved
 pub mod NoNames
 pub mod NodesRead
 pub mod Parts

@@ -16,6 +16,7 @@
 mod leaves;
 mod merging;
 mod needing;
+mod places;
 mod readings;
 mod records;
 mod rows;

@@ -7,6 +7,7 @@ ghost use Rattle.shred_schema.specs.Views.{group_of, kind_of, named};
 ghost use Rattle.unshredder.specs.Readings.{IsReading, AreInside, AreReadings};
 
 use crate::leaves::{is_any_read, is_tested};
+use crate::places::{Moves, moves_of};
 use shred_schema::{Node, Typed, slot_width, typed_width};
 use sqlite_items::Items;
 use std::alloc::Global;
@@ -24,6 +25,8 @@ pub struct Reading {
     pub(crate) typed: bool,
     // Whether it tells something that both parts are missing.
     pub(crate) tested: bool,
+    // Moves that bring the members of all fields into the order of their names.
+    pub(crate) moves: Moves,
     // How each field is read, or the element.
     pub(crate) inside: Items<Reading>,
 }
@@ -42,13 +45,22 @@ pub(crate) fn reading_of(
     let first = slot_width(node.value);
     let count = typed_width(&node.typed);
     let inside = inside_of(alloc, mask, &node.typed, leaf + first)?;
+    let moves = typed_moves(alloc, &node.typed)?;
     Ok(Reading {
         leaves: first + count,
         value: is_any_read(mask, leaf, first),
         typed: is_any_read(mask, leaf + first, count),
         tested: is_tested(mask, leaf, node),
+        moves,
         inside,
     })
+}
+
+fn typed_moves(alloc: Global, typed: &Typed) -> Result<Moves, NoMemory> {
+    match typed {
+        Typed::Fields(fields) => moves_of(alloc, fields.as_slice()),
+        _ => Ok(Items::new(alloc)),
+    }
 }
 
 #[cycle(make)]

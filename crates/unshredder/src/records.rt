@@ -19,8 +19,9 @@ ghost use Rattle.unshredder.specs.Readings.{IsReading, AreInside, AreReadings};
 ghost use Rattle.unshredder.specs.Seen.{seen, typed_seen, fields_seen, items_seen, is_tested, ahead};
 
 use crate::merging::{left_over, put_member, value_seen, whole, with_cell, without_fields};
+use crate::places::members_of;
 use crate::readings::Reading;
-use json_tree::{Items, Members, Tree};
+use json_tree::{Items, Tree};
 use shred_schema::{Node, Part, Record, Typed, slot_width};
 use std::alloc::Global;
 use variant_meta::MetaRef;
@@ -54,6 +55,7 @@ pub(crate) fn seen(
             alloc,
             mask,
             reading.inside.as_slice(),
+            reading.moves.as_slice(),
             meta,
             &node.typed,
             leaf + first,
@@ -72,6 +74,7 @@ fn typed_seen(
     alloc: Global,
     mask: &[bool],
     inside: &[Reading],
+    moves: &[(usize, usize)],
     meta: &MetaRef,
     typed: &Typed,
     leaf: usize,
@@ -101,6 +104,7 @@ fn typed_seen(
                     alloc,
                     mask,
                     inside,
+                    moves,
                     meta,
                     fields.as_slice(),
                     leaf,
@@ -139,6 +143,7 @@ fn with_fields(
     alloc: Global,
     mask: &[bool],
     readings: &[Reading],
+    moves: &[(usize, usize)],
     meta: &MetaRef,
     fields: &[(Text, Node)],
     leaf: usize,
@@ -166,7 +171,7 @@ fn with_fields(
         left,
         records,
     )?;
-    match Members::from_pairs(pairs) {
+    match members_of(pairs, moves) {
         Ok(members) => Ok(Some(Tree::Object(members))),
         Err(_) => unreachable!(),
     }
