@@ -9,6 +9,8 @@ use Rattle.shred_schema.specs.Views.{group_of, rec_of, named}
 use Rattle.shred_schema.specs.declared.nodes.Node.{Node}
 use Rattle.shred_schema.specs.declared.records.Record.{Record}
 use Rattle.shred_schema.proofs.Viewed.{fields_at, recs_at}
+use Rattle.unshredder.specs.Readings.{IsReading}
+use Rattle.unshredder.specs.declared.readings.Reading.{Reading, out-Reading}
 use Rattle.unshredder.specs.Rows.{has_value, part_has_value, fields_have_value, any_rec}
 
 parted : (a b c : Bool) → (a && b) && c ≡ a && (b && c)
@@ -95,3 +97,9 @@ shape_turn fs rs k f x h i s =
     subst (λ (gs : Groups). FieldsHaveShape gs (recs (rec_of (get_or rs k x)) (recs_from (map rec_of (drop (k + 1) rs))))) (fields_at fs k f f h)
     (subst (λ (xs : Recs). FieldsHaveShape (groups_from (map named (drop k fs))) xs) (recs_at rs k x i) s) in
     both.1
+
+-- no leaf of the node is read
+pub unread_node : (n : Group) (mask : ℕ → Bool) (k : ℕ) (x : Rec) (r : Reading) → IsReading mask n k r → (out-Reading r).value ≡ false → (out-Reading r).typed ≡ false → false ≡ has_value mask n k x
+unread_node (group s t) mask k (rec v p) r h e f =
+    sym (neither (is_some v && is_any_read mask k (slot_width s)) (part_has_value mask t (k + slot_width s) p)
+    (not_there (is_some v) (is_any_read mask k (slot_width s)) (sym h.0.value ∙ e)) (none_in_part t mask (k + slot_width s) p (sym h.0.typed ∙ f)))

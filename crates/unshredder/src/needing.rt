@@ -110,12 +110,29 @@ fn fields_have_value(
     let mut first = leaf;
     for k in 0..fields.len() {
         let reading = &readings[k];
-        if has_value(mask, reading, &fields[k].1, first, &records[k]) {
+        if field_has_value(mask, reading, &fields[k].1, first, &records[k]) {
             return true;
         }
         first += reading.leaves;
     }
     false
+}
+
+// A field, which has no value that is read where no leaf of it is.
+#[cycle(needing)]
+#[inline(always)]
+#[tactic(auto, using(crate::proofs::ValuesRead::unread_node))]
+fn field_has_value(mask: &[bool], reading: &Reading, node: &Node, leaf: usize, rec: &Record) -> bool
+    requires shape { HasShape (group_of node.now) (rec_of rec.now) }
+    requires leaves { leaf + width (group_of node.now) < 2 ^ 32 }
+    requires reading { IsReading (reads mask.now) (group_of node.now) leaf reading.now }
+    ensures { result ≡ has_value (reads mask.now) (group_of node.now) leaf (rec_of rec.now) }
+{
+    if reading.value || reading.typed {
+        has_value(mask, reading, node, leaf, rec)
+    } else {
+        false
+    }
 }
 
 #[cycle(needing)]

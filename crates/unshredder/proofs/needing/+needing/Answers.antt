@@ -51,5 +51,5 @@ fields_have_value-loop-k-preserved t c =
       leaves = omega (arith, turn.leaves, ap groups_width at, c.loop-k.invariant.leaves);
       readings = turn.more;
       nesting = omega (arith, ap groups_nesting at, c.loop-k.invariant.nesting);
-      same = value_turn _ _ _ c.args.fields.now c.args.records.now c.loop-k.k c.index-fields-k.result c.index-records-k.result _ c.loop-k-test.true (omega (arith, many, c.loop-k-test.true)) c.index-records-k.is c.loop-k.invariant.same (sym c.has_value.ensures ∙ c.if-has_value.false) (ap (λ n. c.loop-k.first + n) (sym turn.leaves));
+      same = value_turn _ _ _ c.args.fields.now c.args.records.now c.loop-k.k c.index-fields-k.result c.index-records-k.result _ c.loop-k-test.true (omega (arith, many, c.loop-k-test.true)) c.index-records-k.is c.loop-k.invariant.same (sym c.field_has_value.ensures ∙ c.if-field_has_value.false) (ap (λ n. c.loop-k.first + n) (sym turn.leaves));
     }

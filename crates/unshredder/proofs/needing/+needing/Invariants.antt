@@ -11,16 +11,19 @@ use Rattle.unshredder.proofs.needing.+needing.Given as goal
 -- a node, its typed part, what is inside it, and back to a node
 
 abbrev pub decreases-has_value : goal.decreases-has_value
-decreases-has_value l = 4 * nesting (group_of l.node.now) + 1
+decreases-has_value l = 5 * nesting (group_of l.node.now) + 1
 
 abbrev pub decreases-part_has_value : goal.decreases-part_has_value
-decreases-part_has_value l = 4 * kind_nesting (kind_of l.typed.now)
+decreases-part_has_value l = 5 * kind_nesting (kind_of l.typed.now)
 
 abbrev pub decreases-fields_have_value : goal.decreases-fields_have_value
-decreases-fields_have_value l = 4 * groups_nesting (groups_from (map named l.fields.now)) + 3
+decreases-fields_have_value l = 5 * groups_nesting (groups_from (map named l.fields.now)) + 3
 
 abbrev pub decreases-any_has_value : goal.decreases-any_has_value
-decreases-any_has_value l = 4 * nesting (group_of l.node.now) + 2
+decreases-any_has_value l = 5 * nesting (group_of l.node.now) + 2
+
+abbrev pub decreases-field_has_value : goal.decreases-field_has_value
+decreases-field_has_value l = 5 * nesting (group_of l.node.now) + 2
 
 abbrev pub invariant-fields_have_value-loop-k : goal.invariant-fields_have_value-loop-k
 invariant-fields_have_value-loop-k l = record {
