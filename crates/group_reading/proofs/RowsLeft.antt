@@ -17,6 +17,8 @@ use Rattle.record_assembly.specs.Cuts.{later_items, is_nil}
 use Rattle.column_assembly.specs.Items.{is_whole}
 use Rattle.row_assembler.specs.Assembly.{Assembly, IsFor, Passes, has_row, left}
 use Rattle.group_reading.specs.ChunkEntries.{has_rows}
+use Rattle.unshredder.specs.Readings.{IsReading}
+use Rattle.unshredder.specs.declared.readings.Reading.{Reading}
 use Rattle.group_reading.specs.GroupRows.{next_seen, rows_seen}
 use Rattle.group_reading.specs.RowsAhead.{rows_ahead, StandsFor, with_row, at_row, GivesRow, RefusesRow}
 use Rattle.group_reading.specs.declared.group_faults.PlaceInGroup.TheVariants as place
@@ -33,9 +35,10 @@ stands_whole o n mask g later stands more =
     read_from (reads mask) 0 (1 + width n) (λ j. is_whole g.assembler.ended (left g.assembler j))
     (λ j a y. whole_at g.assembler j stands.ended (some_row later (left g.assembler j) (subst (λ count. has_rows count (left g.assembler j) ≡ true) more (stands.rows j a y))))
 
-stands_next : (o : Bool) (n : Group) (mask : List Bool) (g h : GroupRows) → StandsFor o n mask g → IsFor h.assembler o n mask → Passes g.assembler h.assembler n mask → g.left ≡ suc h.left → h.row ≡ g.row + 1 → StandsFor o n mask h
-stands_next o n mask g h stands column passes fewer next = record {
+stands_next : (o : Bool) (n : Group) (mask : List Bool) (g h : GroupRows) → StandsFor o n mask g → h.reading ≡ g.reading → IsFor h.assembler o n mask → Passes g.assembler h.assembler n mask → g.left ≡ suc h.left → h.row ≡ g.row + 1 → StandsFor o n mask h
+stands_next o n mask g h stands same column passes fewer next = record {
   column = column;
+  reading = subst (λ (r : Reading). IsReading (reads mask) n 1 r) (sym same) stands.reading;
   some = stands.some;
   ended = passes.ended ∙ stands.ended;
   goes = passes.goes;
@@ -51,12 +54,12 @@ ahead_next o n mask g h row stands passes fewer next seen =
     ∙ (row_more (reads mask) o n h.left g.row (left g.assembler) (left h.assembler) row stands.some passes.later seen
     ∙ ap (λ k. with_row row (rows_seen (reads mask) o n h.left k (left h.assembler))) (sym next))
 
-pub gives_row : (o : Bool) (n : Group) (mask : List Bool) (g h : GroupRows) (row : Option Json) → StandsFor o n mask g → IsFor h.assembler o n mask → Passes g.assembler h.assembler n mask → h.left + 1 ≡ g.left → h.row ≡ g.row + 1 → next_seen (reads mask) o n (left g.assembler) ≡ Ok row → GivesRow o n mask g h row
-gives_row o n mask g h row stands column passes fewer next seen =
+pub gives_row : (o : Bool) (n : Group) (mask : List Bool) (g h : GroupRows) (row : Option Json) → StandsFor o n mask g → h.reading ≡ g.reading → IsFor h.assembler o n mask → Passes g.assembler h.assembler n mask → h.left + 1 ≡ g.left → h.row ≡ g.row + 1 → next_seen (reads mask) o n (left g.assembler) ≡ Ok row → GivesRow o n mask g h row
+gives_row o n mask g h row stands same column passes fewer next seen =
     let one = sym fewer ∙ sym (suc-eq-add-one h.left) in
     record {
       ahead = ahead_next o n mask g h row stands passes one next seen;
-      stands = stands_next o n mask g h stands column passes one next;
+      stands = stands_next o n mask g h stands same column passes one next;
       fewer = fewer;
     }
 

@@ -9,6 +9,7 @@ use Rattle.vs_bytes.specs.declared.refused.Refused.TheVariants.{Fault, NoMemory}
 use Rattle.vs_bytes.specs.Outcome.{◌>>=◌}
 use Rattle.shred_schema.specs.Groups.{Group, width}
 use Rattle.shred_schema.specs.Ranges.{is_among, reads, none_read}
+use Rattle.unshredder.specs.Readings.{IsReading}
 use Rattle.row_assembler.specs.Assembly.{Assembly, IsFor, left}
 use Rattle.vs_bytes.specs.declared.leaf_columns.Entry.{Entry}
 use Rattle.group_reading.specs.ChunkEntries.{has_rows}
@@ -25,6 +26,7 @@ rows_ahead mask optional n g = rows_seen mask optional n g.left g.row (left g.as
 -- the rows are of this column, under this mask, and each leaf that is read has the entries of all of them
 pub record StandsFor (optional : Bool) (n : Group) (mask : List Bool) (g : GroupRows) : Type 0 where
   pub column : IsFor g.assembler optional n mask
+  pub reading : IsReading (reads mask) n 1 g.reading
   pub some : none_read (reads mask) 0 (1 + width n) ≡ false
   pub ended : g.assembler.ended ≡ true
   pub goes : g.assembler.stop ≡ None

@@ -9,6 +9,7 @@ ghost use Rattle.shred_schema.specs.Lawful.{IsWellFormed};
 ghost use Rattle.shred_schema.specs.Ranges.{is_among, reads, none_read};
 ghost use Rattle.shred_schema.specs.Views.{group_of};
 ghost use Rattle.row_assembler.specs.Assembly.{IsFor, Passes, has_row, left};
+ghost use Rattle.unshredder.specs.Readings.{IsReading};
 ghost use Rattle.group_reading.specs.ChunkEntries.{has_rows};
 ghost use Rattle.group_reading.specs.GroupRows.{next_seen, rows_seen};
 ghost use Rattle.group_reading.specs.RowsAhead.{rows_ahead, StandsFor, FedLeaf, at_row, NextRow};
@@ -18,13 +19,14 @@ use json_tree::Tree;
 use row_assembler::Assembler;
 use shred_schema::{Column, Mask};
 use std::alloc::Global;
-use unshredder::unshred;
+use unshredder::Reading;
 use vs_bytes::{EntryList, NoMemory, Refusal, Refused, Sequence};
 
 /// The rows of a row group that are still to come.
 #[derive(Drop)]
 pub struct GroupRows {
     assembler: Assembler,
+    reading: Reading,
     row: u64,
     left: u64,
 }
@@ -33,10 +35,12 @@ pub struct GroupRows {
 fn next_row(
     alloc: Global,
     assembler: &mut Assembler,
+    reading: &Reading,
     column: &Column,
     mask: &Mask,
 ) -> Result<Option<Tree>, Refusal>
     requires well { IsWellFormed (group_of column.now.node) }
+    requires reading { IsReading (reads mask.now) (group_of column.now.node) 1 reading.now }
     requires column { IsFor assembler.old column.now.optional (group_of column.now.node) mask.now }
     requires goes { assembler.old.stop ≡ None }
     requires whole { has_row assembler.old (group_of column.now.node) mask.now ≡ true }
@@ -45,7 +49,7 @@ fn next_row(
     ensures passes { OnOk result (Passes assembler.old assembler.new (group_of column.now.node) mask.now) }
 {
     match assembler.next_row(alloc) {
-        Ok(Some(row)) => unshred(alloc, column, &row, mask),
+        Ok(Some(row)) => reading.row(alloc, column, &row, mask),
         Ok(None) => unreachable!(),
         Err(refusal) => Err(refusal),
     }
@@ -107,6 +111,7 @@ impl GroupRows {
         ensures rows { IfOk result (λ g. rows_ahead (reads mask.now) column.now.optional (group_of column.now.node) g ≡ rows_seen (reads mask.now) column.now.optional (group_of column.now.node) rows 0 (λ j. slice_index_or leaves j [])) }
     {
         let mut leaves = leaves.into_vec();
+        let reading = Reading::new(alloc, column, mask)?;
         let mut assembler = Assembler::new(alloc, column, mask)?;
         for j in 0..leaves.len() {
             feed_leaf(alloc, &mut assembler, column, mask, j, &mut leaves[j])?;
@@ -114,6 +119,7 @@ impl GroupRows {
         assembler.end();
         Ok(GroupRows {
             assembler,
+            reading,
             row: 0,
             left: rows,
         })
@@ -136,7 +142,7 @@ impl GroupRows {
         if self.left == 0 {
             return Ok(None);
         }
-        match next_row(alloc, &mut self.assembler, column, mask) {
+        match next_row(alloc, &mut self.assembler, &self.reading, column, mask) {
             Ok(row) => {
                 self.left -= 1;
                 self.row += 1;

@@ -2,15 +2,15 @@ use Rattle.shred_schema.specs.Views.{group_of, row_rec_of}
 use Rattle.group_reading.proofs.NextRows.{row_shape, row_makes, refusal_makes}
 use Rattle.group_reading.proofs.group_rows.next_row.Goals as goal
 
-pub unshred-requires-clause-row : goal.unshred-requires-clause-row
-unshred-requires-clause-row c =
+pub row-requires-clause-row : goal.row-requires-clause-row
+row-requires-clause-row c =
     let gives = rw c.in-Ok-Some.field-0-is at (c.in-Ok-Some.ensures.row c.args.column.now.optional (group_of c.args.column.now.node) c.args.mask.now c.requires.column) in
     row_shape c.args.column.now.optional (group_of c.args.column.now.node) c.args.mask.now c.args.assembler.now c.next_row.new.self (row_rec_of c.in-Ok-Some.row) gives
 
 pub returns-in-Ok-Some-clause-exact : goal.returns-in-Ok-Some-clause-exact
 returns-in-Ok-Some-clause-exact c =
     let gives = rw c.in-Ok-Some.field-0-is at (c.in-Ok-Some.ensures.row c.args.column.now.optional (group_of c.args.column.now.node) c.args.mask.now c.requires.column) in
-    row_makes c.args.column.now.optional (group_of c.args.column.now.node) c.args.mask.now c.args.assembler.now c.next_row.new.self (row_rec_of c.in-Ok-Some.row) c.unshred.result gives c.unshred.ensures
+    row_makes c.args.column.now.optional (group_of c.args.column.now.node) c.args.mask.now c.args.assembler.now c.next_row.new.self (row_rec_of c.in-Ok-Some.row) c.row.result gives c.row.ensures
 
 pub returns-in-Ok-Some-clause-column : goal.returns-in-Ok-Some-clause-column
 returns-in-Ok-Some-clause-column c = c.in-Ok-Some.ensures.column c.args.column.now.optional (group_of c.args.column.now.node) c.args.mask.now c.requires.column

@@ -19,7 +19,7 @@ next_row-requires-clause-whole c =
 pub returns-in-Ok : goal.returns-in-Ok
 returns-in-Ok c =
     let fewer : c.args.self.now.left - 1 + 1 ≡ c.args.self.now.left = omega arith in
-    gives_row c.args.column.now.optional (group_of c.args.column.now.node) c.args.mask.now c.args.self.now _ (option_map view c.in-Ok.row) c.requires.stands c.in-Ok.ensures.column c.in-Ok.ensures.passes fewer refl c.in-Ok.ensures.exact
+    gives_row c.args.column.now.optional (group_of c.args.column.now.node) c.args.mask.now c.args.self.now _ (option_map view c.in-Ok.row) c.requires.stands refl c.in-Ok.ensures.column c.in-Ok.ensures.passes fewer refl c.in-Ok.ensures.exact
 
 pub returns-in-Err : goal.returns-in-Err
 returns-in-Err c =
