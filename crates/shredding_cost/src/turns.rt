@@ -14,7 +14,7 @@ use shred_schema::{Column, Mask, Node, RowRecord, width};
 use shredder::shred;
 use std::alloc::Global;
 use test_records::{WIDTHS, full_mask, shredded_row};
-use unshredder::unshred;
+use unshredder::Reading;
 use variant_write::dictionary_of;
 use vs_bytes::{NoMemory, Refused};
 
@@ -59,9 +59,10 @@ fn read(
     requires column { IsWellFormed (group_of column.now.node) }
     requires row { RowHasShape (group_of column.now.node) (row_rec_of row.now) }
 {
+    let reading = Reading::new(alloc, column, mask)?;
     let mut count: usize = 0;
     for _turn in 0..turns {
-        match unshred(alloc, column, row, mask) {
+        match reading.row(alloc, column, row, mask) {
             Ok(Some(_)) => count = count.saturating_add(1),
             Ok(None) => {}
             Err(Refused::NoMemory) => return Err(NoMemory),
