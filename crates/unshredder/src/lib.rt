@@ -9,6 +9,7 @@
 //! | `merging` | what the value and the typed part of one node mean together |
 //! | `records` | records, node by node |
 //! | `needing` | whether the names of a row's metadata are needed |
+//! | `places` | the places of fields in the order of their names |
 //! | `readings` | `Reading`: how each node is read under a mask |
 //! | `rows` | `unshred`: a row; `Reading::new`, `Reading::row`: many of them |
 #![tactic(auto)]
