@@ -8,7 +8,8 @@ ghost use Rattle.shred_schema.specs.Ranges.{is_among};
 use crate::levels::Levels;
 use vs_bytes::{Cell, Entry, EntryList, NoMemory};
 
-/// Puts one entry into a leaf.
+// Puts one entry into a leaf.
+#[inline(always)]
 fn put(leaves: &mut [EntryList], leaf: usize, entry: Entry) -> Result<(), NoMemory>
     requires { leaf < length leaves.old }
     ensures { OnOk result (Gains leaves.old leaves.new (λ j. in_leaf (j == leaf) (entry ∷ []))) }
@@ -18,6 +19,7 @@ fn put(leaves: &mut [EntryList], leaf: usize, entry: Entry) -> Result<(), NoMemo
 }
 
 /// Puts a value into a leaf, at the definition level of `levels`.
+#[inline(always)]
 pub(crate) fn put_cell(
     leaves: &mut [EntryList],
     leaf: usize,

@@ -11,8 +11,8 @@ ghost use Rattle.level_striping.specs.Entries.{top_level, entries, part_entries,
 ghost use Rattle.level_striping.specs.Gains.{Gains};
 
 use crate::levels::Levels;
-use crate::putting::{put_cell, put_nulls};
-use crate::values::{copied_cell, put_absent, put_bytes, put_value};
+use crate::putting::put_nulls;
+use crate::values::{put_absent, put_bytes, put_copy, put_value};
 use shred_schema::{Column, FieldList, Node, Part, Record, RowList, RowRecord, Typed, width};
 use std::alloc::Global;
 use vs_bytes::{EntryList, NoMemory, Sequence};
@@ -146,7 +146,7 @@ fn put_part(
         Typed::Free => Ok(leaf),
         Typed::Prim(_) => match part {
             Part::Cell(cell) => {
-                put_cell(leaves, leaf, levels.deeper(), copied_cell(alloc, cell)?)?;
+                put_copy(alloc, leaves, leaf, levels.deeper(), cell)?;
                 Ok(leaf + 1)
             }
             _ => put_absent(leaves, leaf, typed, levels),

@@ -21,14 +21,22 @@ fn copied(alloc: Global, bytes: &Bytes) -> Result<Bytes, NoMemory>
     Ok(Bytes::from_slice(alloc, bytes.as_slice())?)
 }
 
-/// A cell of the same value.
-pub(crate) fn copied_cell(alloc: Global, cell: &Cell) -> Result<Cell, NoMemory>
-    ensures { IfOk result (λ copy. copy ≡ cell.now) }
+/// Puts a copy of a cell into a leaf, at the definition level of `levels`. Each kind has a way of its own, so that an
+/// entry is written where it stays.
+pub(crate) fn put_copy(
+    alloc: Global,
+    leaves: &mut [EntryList],
+    leaf: usize,
+    levels: Levels,
+    cell: &Cell,
+) -> Result<(), NoMemory>
+    requires { leaf < length leaves.old }
+    ensures { OnOk result (Gains leaves.old leaves.new (λ j. in_leaf (j == leaf) (cell_at levels.rep levels.def cell.now))) }
 {
     match cell {
-        Cell::Bool(b) => Ok(Cell::Bool(*b)),
-        Cell::Num(n) => Ok(Cell::Num(*n)),
-        Cell::Bytes(bytes) => Ok(Cell::Bytes(copied(alloc, bytes)?)),
+        Cell::Bool(truth) => put_cell(leaves, leaf, levels, Cell::Bool(*truth)),
+        Cell::Num(number) => put_cell(leaves, leaf, levels, Cell::Num(*number)),
+        Cell::Bytes(bytes) => put_bytes(alloc, leaves, leaf, levels, bytes),
     }
 }
 

@@ -60,11 +60,14 @@ impl<T: Drop> Sequence<T> {
     }
 
     /// Puts one more item at the end. After an `Err` the items are as before.
+    #[inline(always)]
     pub fn push(&mut self, item: T) -> Result<(), NoMemory>
         ensures ok { OnOk result (self.new ≡ self.old ++ item ∷ []) }
         ensures err { OnErr result (self.new ≡ self.old) }
     {
-        self.items.push(item)?;
+        // Room first: a push that can fail holds the item twice, and moves it once more.
+        self.items.reserve(1)?;
+        self.items.push_reserved(item);
         Ok(())
     }
 
