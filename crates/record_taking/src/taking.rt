@@ -194,16 +194,18 @@ fn take_fields(
     let mut at = leaf;
     for k in 0..members.len() {
         let node = &members[k].1;
+        // Room first: a push that can fail holds the record twice.
+        records.reserve(1)?;
         // A field that isn't read keeps its place, and most fields of a projected column are of this kind.
         if is_bare(node) {
-            records.push(Record {
+            records.push_reserved(Record {
                 value: None,
                 typed: None,
-            })?;
+            });
             continue;
         }
         let (found, next) = take_record(alloc, cursors, at, node, levels)?;
-        records.push(found)?;
+        records.push_reserved(found);
         at = next;
     }
     Ok((Items::from_vec(records), at))
@@ -272,10 +274,12 @@ fn take_items(
     };
     let mut records = Vec::with_capacity(alloc, ITEM_ROOM)?;
     let (item, next) = take_record(alloc, cursors, leaf, element, first)?;
-    records.push(item)?;
+    records.reserve(1)?;
+    records.push_reserved(item);
     while goes_on(cursors, leaf, levels.lists) {
         let (item, _) = take_record(alloc, cursors, leaf, element, later)?;
-        records.push(item)?;
+        records.reserve(1)?;
+        records.push_reserved(item);
     }
     if !are_done(cursors, leaf, next, levels.lists) {
         return Err(Refused::Fault(Absent));

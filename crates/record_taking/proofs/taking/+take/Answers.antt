@@ -1,4 +1,5 @@
-use Rattle.std.proofs.Common.{◌≡◌, ◌∙◌, sym, ap, ◌+◌, ◌-◌, true, false, map, Some, None, get_or, arith}
+use Rattle.std.proofs.Common.{◌≡◌, ◌∙◌, sym, ap, ◌+◌, ◌-◌, List, [], ◌∷◌, ◌++◌, true, false, map, Some, None, get_or, arith}
+use Rattle.shred_schema.specs.declared.records.Record.{Record}
 use Rattle.std.specs.Option.{option_map}
 use Rattle.std.proofs.lemmas.Result.{err_from_is_err_and}
 use Rattle.vs_bytes.proofs.Refusals.{fails}
@@ -36,7 +37,7 @@ take_fields-loop-k-preserved t c =
     let wide = fields_width c.as_slice-members.result.now c.loop-k.k c.index-members-k.result (omega arith) in
     let leaves = field_leaves c.as_slice-members.result.now c.loop-k.k c.index-members-k.result (omega arith) c.loop-k.invariant.leaves in
     record {
-      read = rw c.in_ok-found.ensures.next (field_taken c.as_slice-members.result.now c.loop-k.k c.index-members-k.result c.loop-k.records.items c.push-in-loop-k.new.self.items c.in_ok-found.found c.loop-k.cursors c.take_record.new.cursors c.loop-k.at c.args.levels.rep c.args.levels.lists c.args.levels.def _ (omega arith) c.in_ok-push-2.ensures.items c.in_ok-found.ensures.read c.in_ok-found.ensures.passed c.loop-k.invariant.read);
+      read = rw c.in_ok-found.ensures.next (field_taken c.as_slice-members.result.now c.loop-k.k c.index-members-k.result c.loop-k.records.items c.push_reserved-in-loop-k.new.self.items c.in_ok-found.found c.loop-k.cursors c.take_record.new.cursors c.loop-k.at c.args.levels.rep c.args.levels.lists c.args.levels.def _ (omega arith) (c.push_reserved-in-loop-k.ensures.items ∙ ap (λ (l : List Record). l ++ c.in_ok-found.found ∷ []) c.reserve.ensures.items) c.in_ok-found.ensures.read c.in_ok-found.ensures.passed c.loop-k.invariant.read);
       passed = passed_to _ _ _ c.args.leaf c.loop-k.at _ c.in_ok-found.next c.args.levels.lists c.loop-k.invariant.order c.in_ok-found.ensures.next c.loop-k.invariant.passed c.in_ok-found.ensures.passed;
       order = omega (arith, c.loop-k.invariant.order, c.in_ok-found.ensures.next);
       sum = omega (arith, wide, c.loop-k.invariant.sum, c.in_ok-found.ensures.next);
@@ -49,7 +50,7 @@ take_fields-loop-k-preserved-then-is_bare t c =
     let wide = fields_width c.as_slice-members.result.now c.loop-k.k c.index-members-k.result (omega arith) in
     let leaves = field_leaves c.as_slice-members.result.now c.loop-k.k c.index-members-k.result (omega arith) c.loop-k.invariant.leaves in
     record {
-      read = field_bare c.as_slice-members.result.now c.loop-k.k c.index-members-k.result c.loop-k.records.items c.push.new.self.items _ c.loop-k.cursors c.loop-k.at c.args.levels.rep c.args.levels.lists c.args.levels.def _ (omega arith) bare c.in_ok-push.ensures.items (rec_is _) c.loop-k.invariant.read;
+      read = field_bare c.as_slice-members.result.now c.loop-k.k c.index-members-k.result c.loop-k.records.items c.push_reserved.new.self.items _ c.loop-k.cursors c.loop-k.at c.args.levels.rep c.args.levels.lists c.args.levels.def _ (omega arith) bare (c.push_reserved.ensures.items ∙ ap (λ (l : List Record). l ++ _ ∷ []) c.reserve.ensures.items) (rec_is _) c.loop-k.invariant.read;
       passed = c.loop-k.invariant.passed;
       order = c.loop-k.invariant.order;
       sum = omega (arith, wide, c.loop-k.invariant.sum, bare_width (group_of (get_or c.as_slice-members.result.now c.loop-k.k c.index-members-k.result).1) bare);
@@ -80,7 +81,7 @@ take_items-returns-in_err-item-clause-read t c =
 
 pub take_items-loop-alloc-init : goal.take_items-loop-alloc-init
 take_items-loop-alloc-init t c = record {
-  read = first_taken c.in_ok-records.records.items c.push.new.self.items c.in_ok-item.item _ _ c.in_ok-records.ensures.items c.in_ok-push.ensures.items (list_first (group_of c.args.element.now) c.args.leaf c.args.levels.rep c.args.levels.lists c.args.levels.def c.args.cursors.now c.take_record.new.cursors (Some (rec_of c.in_ok-item.item)) c.in_ok-item.ensures.read (λ q e. c.in_ok-item.ensures.passed));
+  read = first_taken c.in_ok-records.records.items c.push_reserved.new.self.items c.in_ok-item.item _ _ c.in_ok-records.ensures.items (c.push_reserved.ensures.items ∙ ap (λ (l : List Record). l ++ c.in_ok-item.item ∷ []) c.reserve.ensures.items) (list_first (group_of c.args.element.now) c.args.leaf c.args.levels.rep c.args.levels.lists c.args.levels.def c.args.cursors.now c.take_record.new.cursors (Some (rec_of c.in_ok-item.item)) c.in_ok-item.ensures.read (λ q e. c.in_ok-item.ensures.passed));
   between = between_first (group_of c.args.element.now) c.args.leaf c.args.levels.lists c.args.cursors.now c.take_record.new.cursors c.in_ok-item.ensures.passed;
 }
 
@@ -94,7 +95,7 @@ take_items-loop-alloc-smaller t c = shrinks c.args.levels.lists c.args.leaf (wid
 
 pub take_items-loop-alloc-preserved : goal.take_items-loop-alloc-preserved
 take_items-loop-alloc-preserved t c = record {
-  read = item_taken c.loop-alloc.records.items c.push-in-loop-alloc.new.self.items c.in_ok-item-2.item _ _ _ c.in_ok-push-2.ensures.items (turn_some (group_of c.args.element.now) c.args.leaf c.args.levels.lists c.args.levels.def c.loop-alloc.cursors c.take_record-in-loop-alloc.new.cursors (rec_of c.in_ok-item-2.item) c.requires.some (sym c.goes_on.ensures ∙ c.loop-alloc-test.true) c.in_ok-item-2.ensures.read c.in_ok-item-2.ensures.passed) c.loop-alloc.invariant.read;
+  read = item_taken c.loop-alloc.records.items c.push_reserved-in-loop-alloc.new.self.items c.in_ok-item-2.item _ _ _ (c.push_reserved-in-loop-alloc.ensures.items ∙ ap (λ (l : List Record). l ++ c.in_ok-item-2.item ∷ []) c.reserve-in-loop-alloc.ensures.items) (turn_some (group_of c.args.element.now) c.args.leaf c.args.levels.lists c.args.levels.def c.loop-alloc.cursors c.take_record-in-loop-alloc.new.cursors (rec_of c.in_ok-item-2.item) c.requires.some (sym c.goes_on.ensures ∙ c.loop-alloc-test.true) c.in_ok-item-2.ensures.read c.in_ok-item-2.ensures.passed) c.loop-alloc.invariant.read;
   between = between_more (group_of c.args.element.now) c.args.leaf c.args.levels.lists c.args.levels.def c.loop-alloc.cursors c.args.cursors.now c.take_record-in-loop-alloc.new.cursors (rec_of c.in_ok-item-2.item) c.loop-alloc.invariant.between c.in_ok-item-2.ensures.read c.in_ok-item-2.ensures.passed;
 }
 
