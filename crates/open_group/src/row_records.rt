@@ -17,6 +17,9 @@ use std::alloc::Global;
 use variant_write::{Widths, dictionary_of};
 use vs_bytes::{Bytes, NoMemory};
 
+// For how many bytes of metadata there is room at first. A copy of what is written is kept, so that none of it is spare.
+const META_ROOM: usize = 256;
+
 // The record of a document: its names, and what stands in the column for it.
 fn present(alloc: Global, node: &Node, tree: &Tree, widths: Widths) -> Result<RowRecord, NoMemory>
     requires node { AllWritten (group_of node.now) }
@@ -25,11 +28,11 @@ fn present(alloc: Global, node: &Node, tree: &Tree, widths: Widths) -> Result<Ro
     ensures { IfOk result (λ made. row_rec_of made ≡ shred_row (group_of node.now) (Some (view tree.now)) widths) }
 {
     let names = dictionary_of(alloc, tree)?;
-    let mut meta = Vec::new(alloc);
+    let mut meta = Vec::with_capacity(alloc, META_ROOM)?;
     names.write(&mut meta, widths.offset)?;
     let rec = shred(alloc, node, tree, &names, widths)?;
     Ok(RowRecord::Present {
-        meta: Bytes::from_vec(alloc, meta)?,
+        meta: Bytes::from_slice(alloc, meta.as_slice())?,
         rec,
     })
 }
