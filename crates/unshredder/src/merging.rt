@@ -144,7 +144,9 @@ pub(crate) fn put_member(
     ensures { OnOk result (map seen pairs.new.items ≡ map seen pairs.old.items ++ member name.now (option_map view value)) }
 {
     if let Some(tree) = value {
-        pairs.push((Text::from_str(alloc, name.as_str())?, tree))?;
+        let name = Text::from_str(alloc, name.as_str())?;
+        pairs.reserve(1)?;
+        pairs.push_reserved((name, tree));
     }
     Ok(())
 }
