@@ -97,7 +97,7 @@ fn headers_violate_their_rules_in_order(rt: HostRuntime) -> Result<(), Fail> {
 
 // A length that ends early or passes the body, runs that end early or go on, and a level above the maximum, first of
 // the repetition levels, then of the definition levels. Then the rules of the values. 2^31 - 1 entries in four bytes
-// ask for no memory.
+// ask for the memory of one.
 const BODIES: &str =
     "int32 | 1 | 1 | 1 | 15 00 15 06 15 06 2c 15 02 15 00 15 06 15 06 00 00 02 00 00 | RunShort
 int32 | 1 | 1 | 1 | 15 00 15 0a 15 0a 2c 15 02 15 00 15 06 15 06 00 00 02 00 00 00 02 | RunShort

@@ -105,8 +105,9 @@ fn push_entry(
     }
 }
 
-// How many entries to make room for. Most values take 4 bytes or more: values that the bytes can't bear ask for no
-// more memory.
+// How many entries to take room for at first: each one without value, since the levels are there, and of those with a
+// value one for each 4 bytes, so that a count that the bytes can't bear takes no more memory. Where values are shorter
+// the list grows.
 fn room(count: usize, maximum: u16, defs: &Levels, bytes: &[u8]) -> usize {
     let borne = bytes.len() / 4;
     if count <= borne {

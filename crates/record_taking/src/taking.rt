@@ -274,6 +274,7 @@ fn take_items(
     };
     let mut records = Vec::with_capacity(alloc, ITEM_ROOM)?;
     let (item, next) = take_record(alloc, cursors, leaf, element, first)?;
+    // Room first, as in `take_fields`.
     records.reserve(1)?;
     records.push_reserved(item);
     while goes_on(cursors, leaf, levels.lists) {

@@ -25,7 +25,7 @@ pub record IsAt (name : List ℕ) (pairs : List (List ℕ × Tree)) (i : ℕ) : 
 pub record IsApart (name : List ℕ) (pairs : List (List ℕ × Tree)) (place : ℕ) : Type 0 where
   pub other : (pair : List ℕ × Tree) → place < length pairs → bytes_eq (get_or pairs place pair).0 name ≡ false
 
--- nor at one before it
+-- no member of the name stands before a place
 pub record IsPast (name : List ℕ) (pairs : List (List ℕ × Tree)) (place : ℕ) : Type 0 where
   pub each : (k : ℕ) → k < place → IsApart name pairs k
 

@@ -17,7 +17,7 @@ use variant_meta::Dictionary;
 use variant_write::{Widths, encode, encode_members};
 use vs_bytes::{Bytes, NoMemory};
 
-// The room for a value that is taken at first: enough for most values, so that it need not grow.
+// How much room is taken at first: enough for most values, so that the buffer need not grow.
 const ROOM: usize = 256;
 
 // Takes the room when the first value is written, since most records have no value that stands in `value`.

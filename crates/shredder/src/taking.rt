@@ -38,7 +38,7 @@ impl Kept {
         })
     }
 
-    /// Takes the member of that name.
+    /// Gives the member of that name, if there is one, and marks it as taken.
     pub(crate) fn take<'a>(&mut self, members: &'a Members, name: &Text) -> Option<&'a Tree>
         requires { length self.old.members.items ≡ length (names_of members.now) }
         ensures value { option_map (λ tree. view tree.now) result ≡ member_of name.now members.now }
