@@ -2,7 +2,7 @@
 
 ghost use Rattle.std.specs.Prelude.{◌≡◌, ◌≤◌, ◌+◌, length, bytes_eq, IfOk};
 ghost use Rattle.vs_bytes.specs.Outcome.{Gives};
-ghost use Rattle.footer_structs.specs.FileEnds.{magic};
+ghost use Rattle.footer_structs.specs.FileEnds.{magic, footer_limit};
 ghost use Rattle.thrift_footer.specs.Opening.{footer_size};
 
 use footer_structs::{FOOTER_LIMIT, MAGIC};
@@ -27,7 +27,7 @@ pub fn footer_size(len: u64, front: &[u8], tail: &[u8]) -> Result<u64, Rule>
     requires whole { length tail.now ≡ 8 }
     ensures exact { Gives (λ n. n) result (footer_size len front.now tail.now) }
     ensures inside { IfOk result (λ n. n + 12 ≤ len) }
-    ensures small { IfOk result (λ n. n ≤ 67108864) }
+    ensures small { IfOk result (λ n. n ≤ footer_limit) }
 {
     if !(is_magic(front) && is_magic(part(tail, 4, 4))) {
         return Err(Rule::NotParquet);
