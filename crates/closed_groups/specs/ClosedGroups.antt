@@ -1,5 +1,5 @@
 -- The row groups of a file that are closed: their structs, and where the next one begins.
-use Rattle.std.specs.Prelude.{◌≡◌, ℕ, ◌+◌, ◌*◌, ◌^◌, ◌<◌, ◌≤◌, ℤ, pos, List, [], ◌∷◌, ◌++◌, length, Option, None, Some, Result, Ok, Err, IfSome}
+use Rattle.std.specs.Prelude.{◌≡◌, ℕ, ◌+◌, ◌*◌, ◌^◌, ◌<◌, ◌≤◌, ℤ, pos, List, [], ◌∷◌, ◌++◌, length, Option, None, Some, Result, Ok, Err, codes, IfSome}
 use Rattle.std.specs.List.{AllByRecursion, flat_map}
 use Rattle.vs_bytes.specs.Numbers.{number_bytes}
 use Rattle.thrift_structs.specs.Listed.{ListFits}
@@ -7,6 +7,7 @@ use Rattle.thrift_structs.specs.declared.column_chunks.ChunkMeta.{ChunkMeta}
 use Rattle.schema_elements.specs.ElementWriting.{ElementFits}
 use Rattle.schema_elements.specs.declared.elements.SchemaElement.{SchemaElement}
 use Rattle.footer_structs.specs.FileEnds.{magic, footer_limit}
+use Rattle.footer_structs.specs.Footers.{orders_in}
 use Rattle.footer_structs.specs.FooterWriting.{footer_bytes, group_bytes, GroupFits}
 use Rattle.footer_structs.specs.ReadFooters.{total_rows}
 use Rattle.footer_structs.specs.declared.row_groups.GroupMeta.{GroupMeta}

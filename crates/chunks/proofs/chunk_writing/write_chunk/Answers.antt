@@ -17,7 +17,7 @@ loop-at-preserved c = record {
   inside = inside c.args.leaf.now c.args.page_bytes c.args.entries.now c.loop-at.at c.in_ok-at.field-0 c.loop-at-test.true c.in_ok-at.ensures.cut c.in_ok-at.ensures.within;
 }
 
-pub returns : goal.returns
-returns c =
-    c.from_vec.ensures
+pub returns-in-Ok : goal.returns-in-Ok
+returns-in-Ok c =
+    c.in-Ok.ensures
     ∙ all_written c.args.leaf.now c.args.page_bytes c.args.entries.now c.loop-at.at c.loop-at.bytes.items (omega (arith, c.loop-at-test.false)) c.loop-at.invariant.written
