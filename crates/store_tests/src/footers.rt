@@ -14,10 +14,10 @@ use vs_bytes::NoMemory;
 // 67,090,515 bytes, and with one more 67,122,716.
 const MOST_GROUPS: usize = 2_083;
 
-// Loads so many empty objects, into groups of so many rows, under a schema whose one field has a name of 16,000 letters.
-fn load_rows(alloc: Global, rows: usize, group_rows: usize) -> Result<Outcome, NoMemory> {
+// Loads so many empty objects, each into a group of its own, under a schema whose one field has a name of 16,000 letters.
+fn load_rows(alloc: Global, rows: usize) -> Result<Outcome, NoMemory> {
     let name = repeated(alloc, "a", "", 16_000)?;
-    let words = format!(in alloc; "load f --group-rows={group_rows} --schema={{{name}:int8}}")?;
+    let words = format!(in alloc; "load f --group-rows=1 --schema={{{name}:int8}}")?;
     let input = repeated(alloc, "{}\n", "", rows)?;
     loaded(alloc, words.as_str(), input.as_bytes())
 }
@@ -26,30 +26,15 @@ fn load_rows(alloc: Global, rows: usize, group_rows: usize) -> Result<Outcome, N
 #[test]
 fn a_footer_has_at_most_67108864_bytes(rt: HostRuntime) -> Result<(), Fail> {
     let alloc = rt.alloc();
-    let met = load_rows(alloc, MOST_GROUPS, 1)?;
+    let met = load_rows(alloc, MOST_GROUPS)?;
     assert_eq!(&rt; met.status, 0);
     let file = file_of(alloc, &met.shelf)?;
     let groups = without_footer(file.as_slice());
     assert_eq!(&rt; groups.len(), 4 + 102 * MOST_GROUPS);
     assert_eq!(&rt; file.len().saturating_sub(groups.len()), 67_090_515 + 8);
-    let full = load_rows(alloc, MOST_GROUPS + 1, 1)?;
+    let full = load_rows(alloc, MOST_GROUPS + 1)?;
     assert_eq!(&rt; full.status, 3);
     assert_eq!(&rt; full.err.bytes(), b"vstore: footer full\n".as_slice());
-    assert_eq!(&rt; file_of(alloc, &full.shelf)?.as_slice(), groups);
-    Ok(())
-}
-
-// The last group isn't full: it closes where the input ends. A group of two rows takes a few bytes more, and as many fit.
-#[test]
-fn a_group_that_the_end_closes_can_be_one_too_many(rt: HostRuntime) -> Result<(), Fail> {
-    let alloc = rt.alloc();
-    let met = load_rows(alloc, 2 * MOST_GROUPS, 2)?;
-    assert_eq!(&rt; met.status, 0);
-    let full = load_rows(alloc, 2 * MOST_GROUPS + 1, 2)?;
-    assert_eq!(&rt; full.status, 3);
-    assert_eq!(&rt; full.err.bytes(), b"vstore: footer full\n".as_slice());
-    let file = file_of(alloc, &met.shelf)?;
-    let groups = without_footer(file.as_slice());
     assert_eq!(&rt; file_of(alloc, &full.shelf)?.as_slice(), groups);
     Ok(())
 }

@@ -1,4 +1,4 @@
-//! Where row groups end: at the limits of rows, of bytes and of entries.
+//! Where row groups end: at the limits of rows and of bytes.
 
 use crate::calls::{called, lines_of, loaded, outcome_text};
 use std::alloc::Global;
@@ -78,27 +78,5 @@ fn a_group_ends_where_its_texts_reach_16777216_bytes(rt: HostRuntime) -> Result<
     let missed = met.as_str().replacen(alloc, "aa", "a", 1)?;
     let text = check_text(alloc, "load f", missed.as_str())?;
     assert_eq!(&rt; text.as_str(), "0 ok 1 groups 17 rows¶");
-    Ok(())
-}
-
-// A list of so many items, as text.
-fn long_list(alloc: Global, items: usize) -> Result<String, NoMemory> {
-    let later = repeated(alloc, ",1", "", items.saturating_sub(1))?;
-    Ok(format!(in alloc; "[1{later}]\n")?)
-}
-
-// A list of 524,287 items has an entry for the metadata, one for its value, and two for each item: 2^20. Four such rows are
-// the 4,194,304 entries of a group. Where one of them is an item shorter, the next row ends it.
-#[test]
-fn a_group_ends_where_its_entries_reach_4194304(rt: HostRuntime) -> Result<(), Fail> {
-    let alloc = rt.alloc();
-    let row = long_list(alloc, 524_287)?;
-    let three = repeated(alloc, row.as_str(), "", 3)?;
-    let met = format!(in alloc; "{three}{row}1\n")?;
-    let text = check_text(alloc, "load f --schema=[int8]", met.as_str())?;
-    assert_eq!(&rt; text.as_str(), "0 ok 2 groups 5 rows¶");
-    let missed = format!(in alloc; "{three}{}1\n", long_list(alloc, 524_286)?)?;
-    let text = check_text(alloc, "load f --schema=[int8]", missed.as_str())?;
-    assert_eq!(&rt; text.as_str(), "0 ok 1 groups 5 rows¶");
     Ok(())
 }
