@@ -12,7 +12,7 @@ fn level_of(alloc: Global, text: &str) -> Result<u16, Wrong> {
 fn cell_of(alloc: Global, text: &str) -> Result<Cell, Wrong> {
     match text.strip_prefix("#") {
         Some(digits) => Ok(Cell::Num(i128::from(number_of(alloc, digits)?))),
-        None => Ok(Cell::Bytes(Bytes::from_vec(alloc, bytes_of(alloc, text)?)?)),
+        None => Ok(Cell::Bytes(Bytes::from_vec(bytes_of(alloc, text)?)?)),
     }
 }
 

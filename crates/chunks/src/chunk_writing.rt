@@ -49,7 +49,7 @@ pub fn write_chunk(
     while at < entries.len() {
         at += append_page(&mut bytes, alloc, leaf, &entries[at..], page_bytes)?;
     }
-    match Bytes::from_vec(alloc, bytes) {
+    match Bytes::from_vec(bytes) {
         Ok(chunk) => Ok(chunk),
         Err(refused) => Err(refused),
     }

@@ -206,7 +206,7 @@ impl ClosedGroups {
         let len = bytes.len();
         bytes.extend_from_slice(&low_bytes(len))?;
         bytes.extend_from_slice(MAGIC)?;
-        Bytes::from_vec(self.alloc, bytes)
+        Bytes::from_vec(bytes)
     }
 }
 

@@ -28,7 +28,7 @@ fn entries_found(
     values: u32,
     bytes: Vec<u8>,
 ) -> Result<String, Refusal> {
-    let reader = ChunkReader::new(Bytes::from_vec(alloc, bytes)?, leaf, u64::from(values));
+    let reader = ChunkReader::new(Bytes::from_vec(bytes)?, leaf, u64::from(values));
     let entries = reader.into_entries(alloc)?;
     Ok(entries_text(alloc, entries.as_slice())?)
 }

@@ -173,27 +173,16 @@ pub(crate) fn entries_of(
 {
     match leaf.phys {
         Phys::Boolean => truths(alloc, leaf, count, reps, defs, bytes),
-        Phys::Int32 => {
-            let integers = Leaf {
-                phys: Phys::Int32,
-                ..*leaf
-            };
-            in_turn(alloc, &integers, count, reps, defs, bytes)
-        }
-        Phys::Int64 => {
-            let integers = Leaf {
-                phys: Phys::Int64,
-                ..*leaf
-            };
-            in_turn(alloc, &integers, count, reps, defs, bytes)
-        }
-        Phys::ByteArray => {
-            let arrays = Leaf {
-                phys: Phys::ByteArray,
-                ..*leaf
-            };
-            in_turn(alloc, &arrays, count, reps, defs, bytes)
-        }
+        Phys::Int32 => in_turn(alloc, &leaf.of_type(Phys::Int32), count, reps, defs, bytes),
+        Phys::Int64 => in_turn(alloc, &leaf.of_type(Phys::Int64), count, reps, defs, bytes),
+        Phys::ByteArray => in_turn(
+            alloc,
+            &leaf.of_type(Phys::ByteArray),
+            count,
+            reps,
+            defs,
+            bytes,
+        ),
         _ => in_turn(alloc, leaf, count, reps, defs, bytes),
     }
 }

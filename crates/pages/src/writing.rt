@@ -147,13 +147,7 @@ fn append_values(
 {
     match leaf.phys {
         Phys::Boolean => append_truths(into, alloc, entries),
-        Phys::Int64 => {
-            let integers = Leaf {
-                phys: Phys::Int64,
-                ..*leaf
-            };
-            append_plain(into, &integers, entries)
-        }
+        Phys::Int64 => append_plain(into, &leaf.of_type(Phys::Int64), entries),
         _ => append_plain(into, leaf, entries),
     }
 }

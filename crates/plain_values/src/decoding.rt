@@ -20,17 +20,17 @@ fn cells(alloc: Global, leaf: &Leaf, count: usize, bytes: &[u8]) -> Result<Cells
         Ok(room) => room,
         Err(_) => return Err(Refused::NoMemory),
     };
-    let mut at = 0;
+    let mut left = bytes;
     for _i in 0..count {
         // Room is made first, so that a cell is written where it stays.
         match found.reserve(1) {
             Ok(()) => (),
             Err(_) => return Err(Refused::NoMemory),
         }
-        match front_cell(alloc, leaf, rest(bytes, at)) {
+        match front_cell(alloc, leaf, left) {
             Ok((cell, used)) => {
                 found.push_reserved(cell);
-                at += used;
+                left = rest(left, used);
             }
             Err(refusal) => return Err(refusal),
         }
@@ -71,20 +71,8 @@ pub fn decode(alloc: Global, leaf: &Leaf, count: usize, bytes: &[u8]) -> Result<
 {
     match leaf.phys {
         Phys::Boolean => booleans(alloc, count, bytes),
-        Phys::Int32 => {
-            let integers = Leaf {
-                phys: Phys::Int32,
-                ..*leaf
-            };
-            cells(alloc, &integers, count, bytes)
-        }
-        Phys::Int64 => {
-            let integers = Leaf {
-                phys: Phys::Int64,
-                ..*leaf
-            };
-            cells(alloc, &integers, count, bytes)
-        }
+        Phys::Int32 => cells(alloc, &leaf.of_type(Phys::Int32), count, bytes),
+        Phys::Int64 => cells(alloc, &leaf.of_type(Phys::Int64), count, bytes),
         Phys::ByteArray => arrays(alloc, leaf, count, bytes),
         _ => cells(alloc, leaf, count, bytes),
     }

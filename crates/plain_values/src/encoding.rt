@@ -69,20 +69,8 @@ pub fn append(into: &mut Vec<u8>, leaf: &Leaf, cells: &[Cell]) -> Result<(), NoM
 {
     match leaf.phys {
         Phys::Boolean => append_booleans(into, cells),
-        Phys::Int32 => {
-            let integers = Leaf {
-                phys: Phys::Int32,
-                ..*leaf
-            };
-            append_cells(into, &integers, cells)
-        }
-        Phys::Int64 => {
-            let integers = Leaf {
-                phys: Phys::Int64,
-                ..*leaf
-            };
-            append_cells(into, &integers, cells)
-        }
+        Phys::Int32 => append_cells(into, &leaf.of_type(Phys::Int32), cells),
+        Phys::Int64 => append_cells(into, &leaf.of_type(Phys::Int64), cells),
         _ => append_cells(into, leaf, cells),
     }
 }

@@ -53,7 +53,7 @@ fn value(alloc: Global, word: &str) -> Result<Option<Bytes>, NoMemory> {
     if word == "-" {
         return Ok(None);
     }
-    Ok(Some(Bytes::from_vec(alloc, bytes_of(alloc, word)?)?))
+    Ok(Some(Bytes::from_vec(bytes_of(alloc, word)?)?))
 }
 
 // The words of a row, one after the other.
@@ -139,7 +139,7 @@ fn row(alloc: Global, text: &str) -> Result<RowRecord, NoMemory>
     ensures { IfOk result (λ row. RowHasShape top (row_rec_of row)) }
 {
     let mut words = Words { rest: text };
-    let meta = Bytes::from_vec(alloc, bytes_of(alloc, words.next())?)?;
+    let meta = Bytes::from_vec(bytes_of(alloc, words.next())?)?;
     let rec = top_record(alloc, &mut words)?;
     Ok(RowRecord::Present { meta, rec })
 }

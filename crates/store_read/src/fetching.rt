@@ -36,7 +36,7 @@ pub(crate) fn fetch<S: Shelf>(
 {
     match zeros(alloc, size) {
         Ok(mut bytes) => match shelf.read_at(name, at, &mut bytes) {
-            Ok(()) => match Bytes::from_vec(alloc, bytes) {
+            Ok(()) => match Bytes::from_vec(bytes) {
                 Ok(bytes) => Ok(bytes),
                 Err(NoMemory) => Err(FetchError::NoMemory),
             },

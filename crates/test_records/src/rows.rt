@@ -32,7 +32,7 @@ pub fn shredded_row(alloc: Global, node: &Node, tree: &Tree) -> Result<RowRecord
     let mut meta = Vec::new(alloc);
     names.write(&mut meta, WIDTHS.offset)?;
     Ok(RowRecord::Present {
-        meta: Bytes::from_vec(alloc, meta)?,
+        meta: Bytes::from_vec(meta)?,
         rec,
     })
 }

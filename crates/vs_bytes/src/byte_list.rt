@@ -3,7 +3,7 @@
 ghost use Rattle.std.specs.Prelude.{◌≡◌, ◌≤◌, [], length, IfOk};
 
 use crate::memory::NoMemory;
-use crate::short_bytes::{SHORT, ShortBytes};
+use crate::short_bytes::{SHORT_BYTES, ShortBytes};
 use std::alloc::Global;
 use std::marker::Model;
 
@@ -46,20 +46,21 @@ impl Bytes {
     pub fn from_slice(alloc: Global, bytes: &[u8]) -> Result<Bytes, NoMemory>
         ensures { IfOk result (λ b. b ≡ bytes.now) }
     {
-        if bytes.len() <= SHORT {
+        if bytes.len() <= SHORT_BYTES {
             return Ok(Bytes::short(bytes));
         }
-        Bytes::long(alloc, Vec::from_slice(alloc, bytes)?)
+        Bytes::long(Vec::from_slice(alloc, bytes)?)
     }
 
-    /// The bytes of a vector, which it takes over.
-    pub fn from_vec(alloc: Global, bytes: Vec<u8>) -> Result<Bytes, NoMemory>
+    /// The bytes of a vector, which it takes over. More than 22 need memory for the box of the vector: where there is
+    /// none, the vector is gone.
+    pub fn from_vec(bytes: Vec<u8>) -> Result<Bytes, NoMemory>
         ensures { IfOk result (λ b. b ≡ bytes.items) }
     {
-        if bytes.len() <= SHORT {
+        if bytes.len() <= SHORT_BYTES {
             return Ok(Bytes::short(bytes.as_slice()));
         }
-        Bytes::long(alloc, bytes)
+        Bytes::long(bytes)
     }
 
     fn short(bytes: &[u8]) -> Bytes
@@ -71,9 +72,10 @@ impl Bytes {
         }
     }
 
-    fn long(alloc: Global, bytes: Vec<u8>) -> Result<Bytes, NoMemory>
+    fn long(bytes: Vec<u8>) -> Result<Bytes, NoMemory>
         ensures { IfOk result (λ b. b ≡ bytes.items) }
     {
+        let alloc = *bytes.allocator();
         Ok(Bytes {
             held: HeldBytes::Long(Box::new(alloc, bytes)?),
         })

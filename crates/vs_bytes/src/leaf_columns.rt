@@ -1,5 +1,7 @@
 //! Leaf columns: what a column holds, and the cells and entries of it.
 
+ghost use Rattle.std.specs.Prelude.{◌≡◌};
+
 use crate::byte_list::Bytes;
 use crate::rule::Rule;
 use crate::sequence::Sequence;
@@ -64,6 +66,18 @@ pub struct Leaf {
     pub phys: Phys,
     /// The kind of its values.
     pub prim: PrimKind,
+}
+
+impl Leaf {
+    /// The leaf with this physical type.
+    ///
+    /// Where the type is one that was matched, what is put in line after it is made for that type.
+    #[inline(always)]
+    pub fn of_type(&self, phys: Phys) -> Leaf
+        ensures { result ≡ record { rep = self.now.rep; def = self.now.def; phys = phys; prim = self.now.prim } }
+    {
+        Leaf { phys, ..*self }
+    }
 }
 
 /// A value of a leaf column.

@@ -5,14 +5,14 @@ ghost use Rattle.std.specs.Prelude.{◌≡◌, ◌≤◌, length};
 use std::marker::Model;
 
 /// How many bytes take no allocation.
-pub(crate) const SHORT: usize = 22;
+pub(crate) const SHORT_BYTES: usize = 22;
 
-/// At most `SHORT` bytes, which contracts see as their list.
+/// At most `SHORT_BYTES` bytes, which contracts see as their list.
 #[derive(Debug, Drop)]
 pub(crate) struct ShortBytes {
     // Bytes, so that the value has no gap and needs no alignment.
     len: u8,
-    bytes: [u8; SHORT],
+    bytes: [u8; SHORT_BYTES],
 }
 
 impl Model for ShortBytes {
@@ -31,7 +31,7 @@ impl ShortBytes {
         requires { length bytes.now ≤ 22 }
         ensures { result ≡ bytes.now }
     {
-        let mut room = [0; SHORT];
+        let mut room = [0; SHORT_BYTES];
         room[..bytes.len()].copy_from_slice(bytes);
         ShortBytes {
             len: bytes.len() as u8,

@@ -15,12 +15,12 @@ use std::cmp::Ordering;
 use std::marker::Model;
 
 /// How many bytes a text may have that needs no allocation.
-const SHORT: usize = 16;
+const SHORT_TEXT: usize = 16;
 
 // Most names and many values are short.
 #[derive(Debug, Drop)]
-pub(crate) enum Held {
-    Short(ArrayString<SHORT>),
+pub(crate) enum HeldText {
+    Short(ArrayString<SHORT_TEXT>),
     Long(String),
 }
 
@@ -29,7 +29,7 @@ pub(crate) enum Held {
 /// One of at most 16 bytes takes no allocation.
 #[derive(Debug, Drop)]
 pub struct Text {
-    held: Held,
+    held: HeldText,
 }
 
 impl Model for Text {
@@ -47,8 +47,8 @@ impl Text {
         ensures { IfOk result (λ t. t ≡ text.now) }
     {
         let held = match ArrayString::from(text) {
-            Ok(short) => Held::Short(short),
-            Err(_) => Held::Long(String::from_str(alloc, text)?),
+            Ok(short) => HeldText::Short(short),
+            Err(_) => HeldText::Long(String::from_str(alloc, text)?),
         };
         Ok(Text { held })
     }
@@ -67,7 +67,7 @@ impl Text {
         ensures { result ≡ string_bytes text }
     {
         Text {
-            held: Held::Long(text),
+            held: HeldText::Long(text),
         }
     }
 
@@ -77,7 +77,7 @@ impl Text {
     {
         match String::from_utf8(bytes) {
             Ok(text) => Some(Text {
-                held: Held::Long(text),
+                held: HeldText::Long(text),
             }),
             Err(_) => None,
         }
@@ -88,8 +88,8 @@ impl Text {
         ensures { result.now ≡ self.now }
     {
         match &self.held {
-            Held::Short(text) => text.as_str(),
-            Held::Long(text) => text.as_str(),
+            HeldText::Short(text) => text.as_str(),
+            HeldText::Long(text) => text.as_str(),
         }
     }
 
