@@ -26,8 +26,10 @@ pub(crate) fn suits(prim: Prim, cell: &Cell) -> bool
     }
 }
 
+/// Whether a number is one of this kind.
+#[inline(always)]
 #[tactic(auto, unfolding(exact_num::specs::Unscaled::half))]
-fn number_suits(prim: Prim, number: i128) -> bool
+pub(crate) fn number_suits(prim: Prim, number: i128) -> bool
     ensures { result ≡ is_of_prim prim (leaf_cell.Num number) }
 {
     match prim {

@@ -1,15 +1,16 @@
 //! The entries that are left in a leaf.
 
-ghost use Rattle.std.specs.Prelude.{◌≡◌, ◌++◌, [], not, true, false, drop, IfSome, OnOk, OnErr};
+ghost use Rattle.std.specs.Prelude.{◌≡◌, ◌++◌, [], not, true, false, ◌≤◌, Some, length, drop, is_some, IfSome, IfNone, OnOk, OnErr};
 ghost use Rattle.record_assembly.specs.Cuts.{until, first_item, later_items, is_nil};
 ghost use Rattle.record_assembly.specs.Reading.{is_null, only_cell};
-ghost use Rattle.column_assembly.specs.Items.{is_whole};
+ghost use Rattle.vs_bytes.specs.declared.leaf_columns.Cell.TheVariants as leaf_cell;
+ghost use Rattle.column_assembly.specs.Items.{is_whole, cell_of};
 
 use crate::items;
 use std::alloc::Global;
 use std::marker::Model;
 use std::mem;
-use vs_bytes::{Cell, Entry, EntryList, NoMemory, Sequence};
+use vs_bytes::{Cell, Entry, EntryList, NoMemory, Prim, Sequence};
 
 /// A leaf's entries, as they are taken in order: contracts see those that are left.
 #[derive(Drop)]
@@ -95,6 +96,60 @@ impl Cursor {
         let cell = taken.value.take();
         self.at += 1;
         cell
+    }
+
+    /// Takes the cell of the first item, where that is one entry with these levels and a value of the kind. Where it
+    /// isn't, nothing is taken.
+    #[inline(always)]
+    #[tactic(auto, using(crate::proofs::OneEntry::suited, crate::proofs::OneEntry::not_suited))]
+    pub fn take_suited(&mut self, prim: Prim, lists: u16, rep: u16, def: u16) -> Option<Cell>
+        ensures cell { result ≡ cell_of prim (only_cell rep def (first_item lists self.old)) }
+        ensures next { IfSome result (λ cell. self.new ≡ later_items lists self.old) }
+        ensures kept { IfNone result (self.new ≡ self.old) }
+    {
+        // Looked at first, so that a cell is moved only where it is taken.
+        if !self.is_suited(prim, lists, rep, def) {
+            return None;
+        }
+        self.take_cell(lists, rep, def)
+    }
+
+    /// Takes the number of the first item, where that is one entry with these levels and a number of the kind. Where
+    /// it isn't, nothing is taken. The number is copied, and its entry stays as it is.
+    #[inline(always)]
+    #[tactic(auto, using(crate::proofs::OneEntry::number_passed))]
+    pub fn take_number(&mut self, prim: Prim, lists: u16, rep: u16, def: u16) -> Option<i128>
+        ensures number { IfSome result (λ n. cell_of prim (only_cell rep def (first_item lists self.old)) ≡ Some (leaf_cell.Num n)) }
+        ensures next { IfSome result (λ n. self.new ≡ later_items lists self.old) }
+        ensures kept { IfNone result (self.new ≡ self.old) }
+    {
+        let number = self.number(prim, lists, rep, def)?;
+        self.at += 1;
+        Some(number)
+    }
+
+    // The number of the first item, where that is one entry with these levels and a number of the kind.
+    #[inline(always)]
+    #[tactic(auto, using(crate::proofs::OneEntry::number_is, crate::proofs::OneEntry::number_there))]
+    fn number(&self, prim: Prim, lists: u16, rep: u16, def: u16) -> Option<i128>
+        ensures number { IfSome result (λ n. cell_of prim (only_cell rep def (first_item lists self.now)) ≡ Some (leaf_cell.Num n)) }
+        ensures there { IfSome result (λ n. 1 ≤ length self.now) }
+    {
+        let left = self.left();
+        if items::is_one(left, lists, rep, def) {
+            items::first_number(left, prim)
+        } else {
+            None
+        }
+    }
+
+    // Whether the first item is one entry with these levels and a value of the kind.
+    #[tactic(auto, using(crate::proofs::OneEntry::suited_is))]
+    fn is_suited(&self, prim: Prim, lists: u16, rep: u16, def: u16) -> bool
+        ensures { result ≡ is_some (cell_of prim (only_cell rep def (first_item lists self.now))) }
+    {
+        let left = self.left();
+        items::is_one(left, lists, rep, def) && items::has_suited(left, prim)
     }
 
     /// Takes the first item where it is one entry without value, which has these levels, and says whether it was.

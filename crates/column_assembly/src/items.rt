@@ -1,11 +1,12 @@
 //! The first item of some entries: an entry, and those after it whose repetition level is above that of the list.
 
-ghost use Rattle.std.specs.Prelude.{◌≡◌, not};
+ghost use Rattle.std.specs.Prelude.{◌≡◌, not, IfSome};
 ghost use Rattle.record_assembly.specs.Cuts.{first_item, until, later_items, beyond, is_nil};
 ghost use Rattle.record_assembly.specs.Reading.{is_null, has_levels};
-ghost use Rattle.column_assembly.specs.Items.{is_one};
+ghost use Rattle.column_assembly.specs.Items.{is_one, has_suited, HasNumber};
 
-use vs_bytes::Entry;
+use crate::cell_kind::{number_suits, suits};
+use vs_bytes::{Cell, Entry, Prim};
 
 /// Whether the first item is one entry, which has these levels.
 pub(crate) fn is_one(entries: &[Entry], lists: u16, rep: u16, def: u16) -> bool
@@ -28,6 +29,39 @@ pub(crate) fn is_null(entries: &[Entry], lists: u16, rep: u16, def: u16) -> bool
         [first, next, ..] => {
             next.rep <= lists && has_levels(first, rep, def) && first.value.is_none()
         }
+    }
+}
+
+/// Whether the first of these entries has a value of the kind.
+pub(crate) fn has_suited(entries: &[Entry], prim: Prim) -> bool
+    ensures { result ≡ has_suited prim entries.now }
+{
+    match entries.first() {
+        None => false,
+        Some(entry) => match &entry.value {
+            None => false,
+            Some(cell) => suits(prim, cell),
+        },
+    }
+}
+
+/// The number that the first of these entries has for its value, where it is one of the kind.
+#[inline(always)]
+pub(crate) fn first_number(entries: &[Entry], prim: Prim) -> Option<i128>
+    ensures { IfSome result (λ n. HasNumber prim n entries.now) }
+{
+    match entries.first() {
+        None => None,
+        Some(entry) => match &entry.value {
+            Some(Cell::Num(number)) => {
+                if number_suits(prim, *number) {
+                    Some(*number)
+                } else {
+                    None
+                }
+            }
+            _ => None,
+        },
     }
 }
 

@@ -1,13 +1,13 @@
 //! Values of one leaf.
 
-ghost use Rattle.std.specs.Prelude.{◌≡◌, ◌+◌, ◌^◌, ◌<◌, ◌≤◌, true, length, IfSome};
+ghost use Rattle.std.specs.Prelude.{◌≡◌, ◌+◌, ◌^◌, ◌<◌, ◌≤◌, true, false, Some, None, length, IfSome, IfNone};
+ghost use Rattle.vs_bytes.specs.declared.leaf_columns.Cell.TheVariants as leaf_cell;
 ghost use Rattle.shred_schema.specs.Groups.{slot_width};
 ghost use Rattle.shred_schema.specs.Cells.{is_of_prim};
 ghost use Rattle.record_assembly.specs.Reading.{only_cell, bytes_read, value_read};
 ghost use Rattle.column_assembly.specs.Items.{cell_of};
 ghost use Rattle.column_assembly.specs.Leaves.{heads, TakenAt, Passed};
 
-use crate::cell_kind::suits;
 use crate::entry_cursor::Cursor;
 use crate::leaf_range::take_null;
 use shred_schema::Slot;
@@ -54,8 +54,54 @@ pub fn take_value(
     }
 }
 
-/// Takes the cell of a leaf, where it has these levels and is one of the kind. `None` where it isn't; then how far the
-/// leaf is taken is open.
+/// Takes the number of a leaf, where it has these levels and is one of the kind. `None` where it isn't; then nothing is
+/// taken.
+#[inline(always)]
+#[tactic(auto, using(crate::proofs::Passing::passed_one))]
+pub fn take_number(
+    cursors: &mut [Cursor],
+    leaf: usize,
+    prim: Prim,
+    lists: u16,
+    rep: u16,
+    def: u16,
+) -> Option<i128>
+    requires { leaf < length cursors.old }
+    ensures number { IfSome result (λ n. cell_of prim (only_cell rep def (heads lists cursors.old leaf)) ≡ Some (leaf_cell.Num n)) }
+    ensures passed { IfSome result (λ n. Passed cursors.old cursors.new leaf 1 lists) }
+    ensures kept { IfNone result (cursors.new ≡ cursors.old) }
+{
+    let cursor = &mut cursors[leaf];
+    cursor.take_number(prim, lists, rep, def)
+}
+
+/// Takes the null of a slot, if it has one: whether the slot has no leaf, or its leaf says that there is no value. Where
+/// it isn't so, nothing is taken.
+#[inline(always)]
+#[tactic(auto, using(crate::proofs::Passing::passed_none, crate::proofs::Passing::passed_one))]
+pub fn take_no_value(
+    cursors: &mut [Cursor],
+    leaf: usize,
+    slot: Slot,
+    lists: u16,
+    rep: u16,
+    def: u16,
+) -> bool
+    requires inside { leaf + slot_width slot ≤ length cursors.old }
+    ensures none { result ≡ true → value_read slot true rep def (heads lists cursors.old leaf) ≡ Some None }
+    ensures passed { result ≡ true → Passed cursors.old cursors.new leaf (slot_width slot) lists }
+    ensures kept { result ≡ false → cursors.new ≡ cursors.old }
+{
+    match slot {
+        Slot::Absent => true,
+        Slot::Required => false,
+        Slot::Optional => take_null(cursors, leaf, lists, rep, def),
+    }
+}
+
+/// Takes the cell of a leaf, where it has these levels and is one of the kind. `None` where it isn't; then nothing is
+/// taken.
+#[inline(always)]
 #[tactic(auto, using(crate::proofs::Passing::passed_one))]
 pub fn take_cell(
     cursors: &mut [Cursor],
@@ -68,8 +114,8 @@ pub fn take_cell(
     requires { leaf < length cursors.old }
     ensures cell { result ≡ cell_of prim (only_cell rep def (heads lists cursors.old leaf)) }
     ensures passed { IfSome result (λ cell. Passed cursors.old cursors.new leaf 1 lists) }
+    ensures kept { IfNone result (cursors.new ≡ cursors.old) }
 {
     let cursor = &mut cursors[leaf];
-    let cell = cursor.take_cell(lists, rep, def)?;
-    if suits(prim, &cell) { Some(cell) } else { None }
+    cursor.take_suited(prim, lists, rep, def)
 }

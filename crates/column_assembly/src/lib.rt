@@ -20,5 +20,5 @@ mod row_ends;
 
 pub use entry_cursor::Cursor;
 pub use leaf_range::take_nulls;
-pub use leaf_value::{take_cell, take_value};
+pub use leaf_value::{take_cell, take_no_value, take_number, take_value};
 pub use row_ends::are_whole;

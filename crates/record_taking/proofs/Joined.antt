@@ -1,5 +1,5 @@
 -- Leaves that are passed by one part after the other.
-use Rattle.std.proofs.Common.{◌≡◌, ◌∙◌, refl, sym, ap, subst, ℕ, ◌+◌, ◌-◌, ◌≤◌, ◌||◌, Bool, true, false, cond, List, [], ◌∷◌, length, slice_index_or, nat_lt, arith}
+use Rattle.std.proofs.Common.{Result, Ok, Err, IfOk, ◌≡◌, ◌∙◌, refl, sym, ap, subst, ℕ, ◌+◌, ◌-◌, ◌≤◌, ◌||◌, Bool, true, false, cond, List, [], ◌∷◌, length, slice_index_or, nat_lt, arith}
 use Rattle.std.proofs.lemmas.Bool.Decides.{nat_tests}
 use Rattle.vs_bytes.specs.declared.leaf_columns.Entry.{Entry}
 use Rattle.shred_schema.specs.Ranges.{is_among, every}
@@ -70,3 +70,7 @@ passed_to a b c k at w next m h e p q =
     let here : at ≡ k + (at - k) = omega arith in
     let both = passed_both a b c k (at - k) w m p (subst (λ (i : ℕ). Passed b c i w m) here q) in
     passed_end a c k (at - k + w) (next - k) m (omega (arith, h, e)) both
+
+pub passed_on : {A E : Type 0} (result : Result A E) (a b c : List (List Entry)) (k x y m : ℕ) → Passed a b k x m → IfOk result (λ _. Passed b c (k + x) y m) → IfOk result (λ _. Passed a c k (x + y) m)
+passed_on (Ok r) a b c k x y m p h = passed_both a b c k x y m p h
+passed_on (Err e) a b c k x y m p h = tt

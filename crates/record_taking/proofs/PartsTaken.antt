@@ -1,24 +1,31 @@
 -- Parts that are taken one after the other, joined to records and fields.
-use Rattle.std.proofs.Common.{◌≡◌, ◌∙◌, refl, sym, ap, ap₂, subst, ℕ, zero, suc, ◌+◌, ◌<◌, ◌≤◌, Bool, true, false, cond, List, [], ◌∷◌, ◌++◌, length, map, drop, get_or, Option, Some, None, zero-add, add-zero, arith}
+use Rattle.std.proofs.Common.{◌≡◌, ◌∙◌, refl, sym, ap, ap₂, subst, ℕ, zero, suc, ◌+◌, ◌<◌, ◌≤◌, Bool, true, false, cond, List, [], ◌∷◌, ◌++◌, length, map, drop, get_or, Option, Some, None, Result, Err, zero-add, add-zero, arith, rules}
 use Rattle.std.specs.Option.{option_map}
 use Rattle.std.proofs.lemmas.List.{map-append}
+use Rattle.vs_bytes.specs.declared.leaf_columns.Cell.{Cell}
 use Rattle.vs_bytes.specs.declared.leaf_columns.Entry.{Entry}
 use Rattle.shred_schema.specs.declared.nodes.Slot.{Slot}
 use Rattle.shred_schema.specs.declared.nodes.Slot.TheVariants.{Absent, Required, Optional}
 use Rattle.shred_schema.specs.declared.nodes.Node.{Node}
+use Rattle.shred_schema.specs.declared.records.Part.{the_lemmas}
+use Rattle.shred_schema.specs.declared.records.Part.TheVariants as part
 use Rattle.shred_schema.specs.declared.records.Record.{Record}
 use Rattle.shred_schema.specs.Groups.{Group, group, Kind, free, scalar, object_of, list_of, groups_from, slot_width, width, kind_width, groups_width, height, groups_height}
 use Rattle.shred_schema.specs.Lawful.{HasLeaves, KindHasLeaves, GroupsHaveLeaves}
 use Rattle.shred_schema.specs.Ranges.{is_among, every}
-use Rattle.shred_schema.specs.Recs.{Rec, rec, RecPart, empty, items, Recs, no_recs, recs, recs_from}
-use Rattle.shred_schema.specs.Views.{group_of, named, rec_of}
+use Rattle.shred_schema.specs.Recs.{Rec, rec, RecPart, empty, cell, items, Recs, no_recs, recs, recs_from}
+use Rattle.shred_schema.specs.Views.{group_of, named, rec_of, part_of}
 use Rattle.shred_schema.proofs.Viewed.{fields_at, fields_end}
 use Rattle.record_assembly.specs.Laws.{Have}
 use Rattle.record_assembly.specs.Reading.{is_null, value_read, with_part, with_field, are_null, read, part_read, fields_read}
 use Rattle.record_assembly.proofs.Same.{read_same, fields_same}
 use Rattle.column_assembly.specs.Leaves.{heads, Passed}
 use Rattle.column_assembly.proofs.Passing.{passed_none}
-use Rattle.record_taking.specs.Parts.{is_bare, is_free, typed_read, list_read, items_of}
+use Rattle.vs_bytes.specs.declared.refused.Absent.{Absent as Nothing}
+use Rattle.vs_bytes.specs.declared.refused.Refused.{Refused}
+use Rattle.vs_bytes.specs.declared.refused.Refused.TheVariants.{Fault, NoMemory}
+use Rattle.vs_bytes.specs.Outcome.{Reads}
+use Rattle.record_taking.specs.Parts.{Put, Puts, is_bare, is_free, typed_read, list_read, items_of}
 use Rattle.record_taking.proofs.FirstLeaf.{part_not_begun, list_not_begun}
 use Rattle.record_taking.proofs.Joined.{passed_end, untouched}
 
@@ -182,3 +189,37 @@ field_height (x ∷ fs) (suc i) f h = omega (arith, field_height fs i f (omega a
 
 pub field_leaves : (fs : List (List ℕ × Node)) (i : ℕ) (f : List ℕ × Node) → i < length fs → GroupsHaveLeaves (groups_from (map named (drop i fs))) → HasLeaves (group_of (get_or fs i f).1) × GroupsHaveLeaves (groups_from (map named (drop (i + 1) fs)))
 field_leaves fs i f h leaves = rw (fields_at fs i f f h) at leaves
+
+-- ---- a record that isn't put: then what it stands in isn't read
+
+pub put_fails : {D : Type 0} (refused : Refused Nothing) (part : Option Rec) (old new : List Record) (all : Option D) → Puts (Err refused) part old new → (part ≡ None → all ≡ None) → Reads {A = D} {F = Nothing} (λ x. x) (Err refused) all
+put_fails (Fault fault) part old new all h k = k h
+put_fails NoMemory part old new all h k = tt
+
+pub not_put : (refused : Refused Nothing) (part : Option RecPart) (all : Option Rec) (old new : List Record) → Reads {A = RecPart} {F = Nothing} (λ x. x) (Err refused) part → (part ≡ None → all ≡ None) → Puts (Err refused) all old new
+not_put (Fault fault) part all old new h k = k h
+not_put NoMemory part all old new h k = tt
+
+-- ---- a record that is put after others
+
+-- a cell, as plain data
+pub part_is_cell : (c : Cell) → part_of (part.Cell c) ≡ cell c
+part_is_cell c = search (rules, the_lemmas)
+
+pub put_part : (v : Option (List ℕ)) (o : Option RecPart) (p : RecPart) (x : Record) (old room new : List Record) → new ≡ room ++ x ∷ [] → room ≡ old → rec_of x ≡ rec v p → o ≡ Some p → Put (with_part (Some v) o) old new
+put_part v o p x old room new added same one typed = record {
+  one = x;
+  is = ap (with_part (Some v)) typed ∙ ap Some (sym one);
+  put = added ∙ ap (λ l. l ++ x ∷ []) same;
+}
+
+-- a record whose value was taken, and then its typed part
+module _ (s : Slot) (t : Kind) (n : Group) (v : Option (List ℕ)) (k r m d : ℕ) (a b : List (List Entry)) (is : n ≡ group s t) (value : value_read s true r d (heads m a k) ≡ Some v) (p : Passed a b k (slot_width s) m) where
+  whole : read n k every r m d (heads m a) ≡ with_part (Some v) (typed_read t (k + slot_width s) r m d (heads m b))
+  whole = ap (λ (g : Group). read g k every r m d (heads m a)) is ∙ record_read s t k r m d a b v _ value p refl
+
+  pub put_rest : (result : Result ℕ (Refused Nothing)) (old room new : List Record) → room ≡ old → Puts result (with_part (Some v) (typed_read t (k + slot_width s) r m d (heads m b))) room new → Puts result (read n k every r m d (heads m a)) old new
+  put_rest result old room new same h = subst (λ (xs : List Record). Puts result (read n k every r m d (heads m a)) xs new) same (subst (λ (o : Option Rec). Puts result o room new) (sym whole) h)
+
+  pub put_one : (q : RecPart) (x : Record) (old room new : List Record) → new ≡ room ++ x ∷ [] → room ≡ old → rec_of x ≡ rec v q → typed_read t (k + slot_width s) r m d (heads m b) ≡ Some q → Put (read n k every r m d (heads m a)) old new
+  put_one q x old room new added same one typed = subst (λ (o : Option Rec). Put o old new) (sym whole) (put_part v _ q x old room new added same one typed)

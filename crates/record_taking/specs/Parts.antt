@@ -1,10 +1,15 @@
 -- What is read of a record part by part, where each leaf is read: the same as `read`, cut where the code cuts it.
-use Rattle.std.specs.Prelude.{ℕ, ◌+◌, Bool, true, false, List, [], cond, slice_index_or, suc, Option, Some}
+use Rattle.std.specs.Prelude.{◌≡◌, ℕ, ◌+◌, Bool, true, false, List, [], ◌∷◌, ◌++◌, cond, slice_index_or, suc, Option, Some, None, Result, Ok, Err}
+use Rattle.vs_bytes.specs.declared.refused.Absent.{Absent}
+use Rattle.vs_bytes.specs.declared.refused.Refused.{Refused}
+use Rattle.vs_bytes.specs.declared.refused.Refused.TheVariants.{Fault, NoMemory}
 use Rattle.vs_bytes.specs.declared.leaf_columns.Entry.{Entry}
-use Rattle.shred_schema.specs.declared.nodes.Slot.TheVariants.{Absent}
+use Rattle.shred_schema.specs.declared.nodes.Slot.TheVariants as slot
+use Rattle.shred_schema.specs.declared.records.Record.{Record}
 use Rattle.shred_schema.specs.Groups.{Group, group, Kind, free, width, kind_width}
 use Rattle.shred_schema.specs.Ranges.{every}
 use Rattle.shred_schema.specs.Recs.{Rec, RecPart, empty}
+use Rattle.shred_schema.specs.Views.{rec_of}
 use Rattle.record_assembly.specs.Cuts.{until}
 use Rattle.record_assembly.specs.Reading.{items_read, longest, are_nil, are_null, read, part_read}
 
@@ -35,5 +40,17 @@ is_free t = false
 
 -- nor a value
 abbrev pub is_bare : Group → Bool
-is_bare (group Absent t) = is_free t
+is_bare (group slot.Absent t) = is_free t
 is_bare (group s t) = false
+
+-- one more record stands at the end: the one that is read
+pub record Put (defined : Option Rec) (old new : List Record) : Type 0 where
+  pub one : Record
+  pub is : defined ≡ Some (rec_of one)
+  pub put : new ≡ old ++ one ∷ []
+
+-- the same of a call, or nothing is read. Out of memory says nothing
+abbrev pub Puts : Result ℕ (Refused Absent) → Option Rec → List Record → List Record → Type 0
+Puts (Ok next) defined old new = Put defined old new
+Puts (Err (Fault absent)) defined old new = defined ≡ None
+Puts (Err NoMemory) defined old new = Unit {0}

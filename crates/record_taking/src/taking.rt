@@ -3,26 +3,27 @@
 //! The first leaf of a part says whether the part is there. What its other leaves must then say is found where they
 //! are taken. Where no record has the entries, how far the leaves are taken is open.
 
-ghost use Rattle.std.specs.Prelude.{◌≡◌, ◌+◌, ◌-◌, ◌*◌, ◌^◌, ◌<◌, ◌≤◌, length, map, not, option_map, IfOk};
+ghost use Rattle.std.specs.Prelude.{◌≡◌, ◌+◌, ◌-◌, ◌*◌, ◌^◌, ◌<◌, ◌≤◌, length, map, not, option_map, Some, None, IfOk, IfSome, IfNone};
 ghost use Rattle.shred_schema.specs.Groups.{width, kind_width, groups_width, height, kind_height, groups_height};
 ghost use Rattle.shred_schema.specs.Lawful.{HasLeaves, KindHasLeaves, GroupsHaveLeaves, max_leaves};
 ghost use Rattle.shred_schema.specs.Ranges.{every};
-ghost use Rattle.shred_schema.specs.Recs.{recs_from};
+ghost use Rattle.shred_schema.specs.Recs.{rec, cell, recs_from};
 ghost use Rattle.shred_schema.specs.Views.{group_of, kind_of, groups_of, part_or_empty, rec_of, part_of};
 ghost use Rattle.vs_bytes.specs.Outcome.{Reads};
+ghost use Rattle.vs_bytes.specs.declared.leaf_columns.Cell.TheVariants as leaf_cell;
 ghost use Rattle.record_assembly.specs.Cuts.{is_nil};
-ghost use Rattle.record_assembly.specs.Reading.{is_null, are_nil, read, part_read, fields_read};
+ghost use Rattle.record_assembly.specs.Reading.{is_null, are_nil, with_part, read, part_read, fields_read};
 ghost use Rattle.column_assembly.specs.Leaves.{heads, Passed};
-ghost use Rattle.record_taking.specs.Parts.{is_bare, is_free, rests, typed_read, list_read, items_of};
+ghost use Rattle.record_taking.specs.Parts.{Puts, is_bare, is_free, rests, typed_read, list_read, items_of};
 
 use crate::levels::Levels;
-use column_assembly::{Cursor, take_cell, take_nulls, take_value};
+use column_assembly::{Cursor, take_cell, take_no_value, take_nulls, take_number, take_value};
 use shred_schema::{
     FieldList, Node, Part, Record, RecordList, Slot, Typed, slot_width, typed_width, width,
 };
 use sqlite_items::Items;
 use std::alloc::Global;
-use vs_bytes::{Absent, Refused};
+use vs_bytes::{Absent, Bytes, Cell, Refused};
 
 // For how many items a list has room at first: most have no more.
 const ITEM_ROOM: usize = 8;
@@ -30,7 +31,6 @@ const ITEM_ROOM: usize = 8;
 /// Takes a record of a node, whose leaves begin with `leaf`, and answers the leaf after them.
 ///
 /// `Absent` exactly where no record has the entries.
-#[cycle(take)]
 pub fn take_record(
     alloc: Global,
     cursors: &mut [Cursor],
@@ -61,6 +61,182 @@ pub fn take_record(
     let first = leaf + slot_width(node.value);
     let (typed, next) = take_typed(alloc, cursors, first, &node.typed, levels)?;
     Ok((Record { value, typed }, next))
+}
+
+/// Takes a record of a node, as `take_record` does, and puts it after `records`: it is written where it stays.
+#[cycle(take)]
+fn put_record(
+    alloc: Global,
+    cursors: &mut [Cursor],
+    leaf: usize,
+    node: &Node,
+    levels: Levels,
+    records: &mut Vec<Record>,
+) -> Result<usize, Refused<Absent>>
+    requires leaves { HasLeaves (group_of node.now) }
+    requires inside { leaf + width (group_of node.now) ≤ length cursors.old }
+    requires short { length cursors.old ≤ max_leaves }
+    requires lists { levels.lists + height (group_of node.now) < 2 ^ 16 }
+    requires level { levels.def + 2 * height (group_of node.now) < 2 ^ 16 }
+    ensures puts { Puts result (read (group_of node.now) leaf every levels.rep levels.lists levels.def (heads levels.lists cursors.old)) records.old.items records.new.items }
+    ensures next { IfOk result (λ next. next ≡ leaf + width (group_of node.now)) }
+    ensures passed { IfOk result (λ next. Passed cursors.old cursors.new leaf (width (group_of node.now)) levels.lists) }
+{
+    if !take_no_value(
+        cursors,
+        leaf,
+        node.value,
+        levels.lists,
+        levels.rep,
+        levels.def,
+    ) {
+        return put_valued(alloc, cursors, leaf, node, levels, records);
+    }
+    let first = leaf + slot_width(node.value);
+    // Room first: a push that can fail holds the record twice.
+    records.reserve(1)?;
+    // Most fields and items are scalars without a value beside them. A number is copied, and no cell is moved.
+    match take_scalar_number(cursors, first, &node.typed, levels) {
+        Some(number) => {
+            records.push_reserved(number_record(number));
+            Ok(first + 1)
+        }
+        None => put_typed(alloc, cursors, first, &node.typed, levels, None, records),
+    }
+}
+
+/// The record of a number without a value beside it.
+#[inline(always)]
+fn number_record(number: i128) -> Record
+    ensures { rec_of result ≡ rec None (cell (leaf_cell.Num number)) }
+{
+    Record {
+        value: None,
+        typed: Some(Part::Cell(Cell::Num(number))),
+    }
+}
+
+/// The same of a record that has a value.
+#[cycle(take)]
+fn put_valued(
+    alloc: Global,
+    cursors: &mut [Cursor],
+    leaf: usize,
+    node: &Node,
+    levels: Levels,
+    records: &mut Vec<Record>,
+) -> Result<usize, Refused<Absent>>
+    requires leaves { HasLeaves (group_of node.now) }
+    requires inside { leaf + width (group_of node.now) ≤ length cursors.old }
+    requires short { length cursors.old ≤ max_leaves }
+    requires lists { levels.lists + height (group_of node.now) < 2 ^ 16 }
+    requires level { levels.def + 2 * height (group_of node.now) < 2 ^ 16 }
+    ensures puts { Puts result (read (group_of node.now) leaf every levels.rep levels.lists levels.def (heads levels.lists cursors.old)) records.old.items records.new.items }
+    ensures next { IfOk result (λ next. next ≡ leaf + width (group_of node.now)) }
+    ensures passed { IfOk result (λ next. Passed cursors.old cursors.new leaf (width (group_of node.now)) levels.lists) }
+{
+    let taken = take_value(
+        cursors,
+        leaf,
+        node.value,
+        levels.lists,
+        levels.rep,
+        levels.def,
+    );
+    let Some(value) = taken else {
+        return Err(Refused::Fault(Absent));
+    };
+    let first = leaf + slot_width(node.value);
+    put_typed(alloc, cursors, first, &node.typed, levels, value, records)
+}
+
+/// Takes a typed part, if there is one, and puts a record of it and of `value` after `records`.
+#[cycle(take)]
+fn put_typed(
+    alloc: Global,
+    cursors: &mut [Cursor],
+    leaf: usize,
+    typed: &Typed,
+    levels: Levels,
+    value: Option<Bytes>,
+    records: &mut Vec<Record>,
+) -> Result<usize, Refused<Absent>>
+    requires leaves { KindHasLeaves (kind_of typed.now) }
+    requires inside { leaf + kind_width (kind_of typed.now) ≤ length cursors.old }
+    requires short { length cursors.old ≤ max_leaves }
+    requires lists { levels.lists + kind_height (kind_of typed.now) + 1 < 2 ^ 16 }
+    requires level { levels.def + 2 * kind_height (kind_of typed.now) + 2 < 2 ^ 16 }
+    ensures puts { Puts result (with_part (Some value) (typed_read (kind_of typed.now) leaf levels.rep levels.lists levels.def (heads levels.lists cursors.old))) records.old.items records.new.items }
+    ensures next { IfOk result (λ next. next ≡ leaf + kind_width (kind_of typed.now)) }
+    ensures passed { IfOk result (λ next. Passed cursors.old cursors.new leaf (kind_width (kind_of typed.now)) levels.lists) }
+{
+    records.reserve(1)?;
+    match take_scalar(cursors, leaf, typed, levels) {
+        Some(cell) => {
+            records.push_reserved(Record {
+                value,
+                typed: Some(Part::Cell(cell)),
+            });
+            return Ok(leaf + 1);
+        }
+        None => (),
+    }
+    let (typed, next) = take_typed(alloc, cursors, leaf, typed, levels)?;
+    records.push_reserved(Record { value, typed });
+    Ok(next)
+}
+
+/// Takes the number of a scalar. `None` where a node has another typed part, or no number is there: then nothing is
+/// taken.
+#[inline(always)]
+fn take_scalar_number(
+    cursors: &mut [Cursor],
+    leaf: usize,
+    typed: &Typed,
+    levels: Levels,
+) -> Option<i128>
+    requires inside { leaf + kind_width (kind_of typed.now) ≤ length cursors.old }
+    requires level { levels.def + 1 < 2 ^ 16 }
+    ensures read { IfSome result (λ n. typed_read (kind_of typed.now) leaf levels.rep levels.lists levels.def (heads levels.lists cursors.old) ≡ Some (cell (leaf_cell.Num n))) }
+    ensures width { IfSome result (λ n. kind_width (kind_of typed.now) ≡ 1) }
+    ensures passed { IfSome result (λ n. Passed cursors.old cursors.new leaf (kind_width (kind_of typed.now)) levels.lists) }
+    ensures kept { IfNone result (cursors.new ≡ cursors.old) }
+{
+    match typed {
+        Typed::Prim(prim) => take_number(
+            cursors,
+            leaf,
+            *prim,
+            levels.lists,
+            levels.rep,
+            levels.def + 1,
+        ),
+        _ => None,
+    }
+}
+
+/// Takes the cell of a scalar. `None` where a node has another typed part, or its cell isn't there: then nothing is
+/// taken.
+#[inline(always)]
+fn take_scalar(cursors: &mut [Cursor], leaf: usize, typed: &Typed, levels: Levels) -> Option<Cell>
+    requires inside { leaf + kind_width (kind_of typed.now) ≤ length cursors.old }
+    requires level { levels.def + 1 < 2 ^ 16 }
+    ensures read { IfSome result (λ c. typed_read (kind_of typed.now) leaf levels.rep levels.lists levels.def (heads levels.lists cursors.old) ≡ Some (cell c)) }
+    ensures width { IfSome result (λ c. kind_width (kind_of typed.now) ≡ 1) }
+    ensures passed { IfSome result (λ c. Passed cursors.old cursors.new leaf (kind_width (kind_of typed.now)) levels.lists) }
+    ensures kept { IfNone result (cursors.new ≡ cursors.old) }
+{
+    match typed {
+        Typed::Prim(prim) => take_cell(
+            cursors,
+            leaf,
+            *prim,
+            levels.lists,
+            levels.rep,
+            levels.def + 1,
+        ),
+        _ => None,
+    }
 }
 
 /// Takes the typed part of a node, if there is one.
@@ -194,19 +370,16 @@ fn take_fields(
     let mut at = leaf;
     for k in 0..members.len() {
         let node = &members[k].1;
-        // Room first: a push that can fail holds the record twice.
-        records.reserve(1)?;
         // A field that isn't read keeps its place, and most fields of a projected column are of this kind.
         if is_bare(node) {
+            records.reserve(1)?;
             records.push_reserved(Record {
                 value: None,
                 typed: None,
             });
             continue;
         }
-        let (found, next) = take_record(alloc, cursors, at, node, levels)?;
-        records.push_reserved(found);
-        at = next;
+        at = put_record(alloc, cursors, at, node, levels, &mut records)?;
     }
     Ok((Items::from_vec(records), at))
 }
@@ -273,14 +446,9 @@ fn take_items(
         ..first
     };
     let mut records = Vec::with_capacity(alloc, ITEM_ROOM)?;
-    let (item, next) = take_record(alloc, cursors, leaf, element, first)?;
-    // Room first, as in `take_fields`.
-    records.reserve(1)?;
-    records.push_reserved(item);
+    let next = put_record(alloc, cursors, leaf, element, first, &mut records)?;
     while goes_on(cursors, leaf, levels.lists) {
-        let (item, _) = take_record(alloc, cursors, leaf, element, later)?;
-        records.reserve(1)?;
-        records.push_reserved(item);
+        put_record(alloc, cursors, leaf, element, later, &mut records)?;
     }
     if !are_done(cursors, leaf, next, levels.lists) {
         return Err(Refused::Fault(Absent));

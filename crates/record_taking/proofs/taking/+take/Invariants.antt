@@ -11,23 +11,29 @@ use Rattle.record_taking.proofs.Joined.{Between}
 use Rattle.record_taking.proofs.PartsTaken.{fields_left}
 use Rattle.record_taking.proofs.taking.+take.Given as goal
 
-abbrev pub decreases-take_record : goal.decreases-take_record
-decreases-take_record l = 5 * height (group_of l.node.now)
+abbrev pub decreases-put_record : goal.decreases-put_record
+decreases-put_record l = 8 * height (group_of l.node.now)
+
+abbrev pub decreases-put_valued : goal.decreases-put_valued
+decreases-put_valued l = 8 * kind_height (kind_of l.node.now.typed) + 7
+
+abbrev pub decreases-put_typed : goal.decreases-put_typed
+decreases-put_typed l = 8 * kind_height (kind_of l.typed.now) + 6
 
 abbrev pub decreases-take_typed : goal.decreases-take_typed
-decreases-take_typed l = 5 * kind_height (kind_of l.typed.now) + 4
+decreases-take_typed l = 8 * kind_height (kind_of l.typed.now) + 5
 
 abbrev pub decreases-take_part : goal.decreases-take_part
-decreases-take_part l = 5 * kind_height (kind_of l.typed.now) + 3
+decreases-take_part l = 8 * kind_height (kind_of l.typed.now) + 4
 
 abbrev pub decreases-take_fields : goal.decreases-take_fields
-decreases-take_fields l = 5 * groups_height (groups_of l.fields.now) + 1
+decreases-take_fields l = 8 * groups_height (groups_of l.fields.now) + 1
 
 abbrev pub decreases-take_list : goal.decreases-take_list
-decreases-take_list l = 5 * height (group_of l.element.now) + 2
+decreases-take_list l = 8 * height (group_of l.element.now) + 2
 
 abbrev pub decreases-take_items : goal.decreases-take_items
-decreases-take_items l = 5 * height (group_of l.element.now) + 1
+decreases-take_items l = 8 * height (group_of l.element.now) + 1
 
 abbrev pub invariant-take_fields-loop-k : goal.invariant-take_fields-loop-k
 invariant-take_fields-loop-k l = record {
