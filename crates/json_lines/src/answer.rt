@@ -4,13 +4,13 @@ ghost use Rattle.std.specs.Prelude.{◌≡◌};
 ghost use Rattle.json_lines.specs.Next.{kept_next};
 ghost use Rattle.json_lines.specs.Answers.{kept_of};
 
-use vs_bytes::{Bytes, NoMemory};
+use vs_bytes::{NoMemory, Sequence};
 
 /// What a call of `Lines::next` found.
-#[derive(Debug, Drop)]
+#[derive(Drop)]
 pub enum Next {
     /// A line that isn't blank, without its LF. Lines are counted from 1, blank ones too.
-    Line { number: u64, bytes: Bytes },
+    Line { number: u64, bytes: Sequence<u8> },
     /// A line of more than 1,048,576 bytes.
     TooLong { number: u64 },
     /// The end of the input.

@@ -18,7 +18,7 @@ use crate::read_buffer::Buffer;
 use outside::{Source, SourceError};
 use std::alloc::Global;
 use std::marker::Model;
-use vs_bytes::{Bytes, NoMemory};
+use vs_bytes::{NoMemory, Sequence};
 
 /// The greatest number of bytes of a line, without its LF.
 pub const LINE_LIMIT: usize = 1_048_576;
@@ -226,7 +226,7 @@ impl Lines {
         requires counts { taken ≤ self.old.room }
         ensures { GivesLine size taken self.old self.new result }
     {
-        let bytes = Bytes::from_slice(self.alloc, self.buffer.front(size))?;
+        let bytes = copied(self.alloc, self.buffer.front(size))?;
         self.pass(taken);
         Ok(Next::Line {
             number: self.number,
@@ -278,6 +278,13 @@ enum Front {
     Over,
     // Bytes of a line whose end wasn't read yet.
     Open,
+}
+
+// A copy of a line.
+fn copied(alloc: Global, line: &[u8]) -> Result<Sequence<u8>, NoMemory>
+    ensures { IfOk result (λ copy. copy ≡ line.now) }
+{
+    Ok(Sequence::from_vec(Vec::from_slice(alloc, line)?))
 }
 
 // Whether all bytes are white space. It stops at the first that isn't.
