@@ -1,5 +1,5 @@
 -- What was seen, before more of it: the state of the loops over fields and items.
-use Rattle.std.proofs.Common.{◌≡◌, ℕ, suc, ◌+◌, ◌≤◌, ◌<◌, ◌^◌, Bool, List, [], ◌∷◌, ◌++◌, append_assoc, drop, get_or, length, map, subst, Option, Result, Ok, Err, refl, sym, ◌∙◌, ap, arith}
+use Rattle.std.proofs.Common.{◌≡◌, ℕ, ◌+◌, ◌≤◌, ◌<◌, ◌^◌, Bool, List, [], ◌∷◌, ◌++◌, append_assoc, drop, length, map, subst, Option, None, Result, Ok, Err, refl, sym, ◌∙◌, ap, arith}
 use Rattle.std.proofs.lemmas.List.{append-nil}
 use Rattle.std.specs.Option.{option_map}
 use Rattle.json_tree.specs.Json.{Json, Parts, parts_of, items_of}
@@ -14,18 +14,18 @@ use Rattle.shred_schema.specs.Groups.{Group, Groups, no_groups, field, width, gr
 use Rattle.shred_schema.specs.Lawful.{EachField, HasEither, MayHold}
 use Rattle.shred_schema.specs.Recs.{Rec, Recs, no_recs, recs}
 use Rattle.shred_schema.specs.Shapes.{FieldsHaveShape}
-use Rattle.shred_schema.specs.Views.{group_of, rec_of, named}
-use Rattle.shred_schema.specs.Groups.{groups_from}
+use Rattle.shred_schema.specs.Views.{rec_of}
 use Rattle.shred_schema.specs.Recs.{recs_from}
-use Rattle.shred_schema.specs.declared.nodes.Node.{Node}
 use Rattle.shred_schema.specs.declared.records.Record.{Record}
-use Rattle.shred_schema.proofs.Viewed.{fields_at, recs_at, recs_end}
+use Rattle.shred_schema.proofs.Viewed.{recs_end}
 use Rattle.unshredder.specs.Merging.{member, element}
 use Rattle.unshredder.proofs.Members.{items_back}
+use Rattle.unshredder.proofs.NextRead.{Passes}
+use Rattle.unshredder.proofs.Unread.{unread_seen}
 use Rattle.unshredder.specs.Seen.{seen, fields_seen, items_seen, ahead}
 
 -- what is left of the fields, where `done` was seen and `whole` comes of all
-pub record IsLeft (mask : ℕ → Bool) (names : List (List ℕ)) (above : ℕ) (first : ℕ) (gs : Groups) (xs : Recs) (done : List (List ℕ × Json)) (most : ℕ) (whole : Result (List (List ℕ × Json)) Rule) : Type 0 where
+pub record IsLeft (mask : ℕ → Bool) (names : List (List ℕ)) (above : ℕ) (done : List (List ℕ × Json)) (most : ℕ) (whole : Result (List (List ℕ × Json)) Rule) (first : ℕ) (gs : Groups) (xs : Recs) : Type 0 where
   pub nodes : EachField HasEither MayHold gs
   pub shape : FieldsHaveShape gs xs
   pub leaves : first + groups_width gs < 2 ^ 32
@@ -40,8 +40,8 @@ joined done found (Ok members) = ap shown (append_assoc done found members)
 joined done found (Err rule) = refl
 
 pub turned : (mask : ℕ → Bool) (names : List (List ℕ)) (above : ℕ) (first : ℕ) (name : List ℕ) (n : Group) (gs : Groups) (x : Rec) (xs : Recs) (done : List (List ℕ × Json)) (most : ℕ) (whole : Result (List (List ℕ × Json)) Rule) (found : Option Json)
-    → IsLeft mask names above first (field name n gs) (recs x xs) done most whole → seen mask names n first above x ≡ Ok found
-    → IsLeft mask names above (first + width n) gs xs (done ++ member name found) most whole
+    → IsLeft mask names above done most whole first (field name n gs) (recs x xs) → seen mask names n first above x ≡ Ok found
+    → IsLeft mask names above (done ++ member name found) most whole (first + width n) gs xs
 turned mask names above first name n gs x xs done most whole found left e = record {
   nodes = left.nodes.1;
   shape = left.shape.1;
@@ -53,34 +53,27 @@ turned mask names above first name n gs x xs done most whole found left e = reco
 }
 
 pub failed : (mask : ℕ → Bool) (names : List (List ℕ)) (above : ℕ) (first : ℕ) (name : List ℕ) (n : Group) (gs : Groups) (x : Rec) (xs : Recs) (done : List (List ℕ × Json)) (most : ℕ) (whole : Result (List (List ℕ × Json)) Rule) (rule : Rule)
-    → IsLeft mask names above first (field name n gs) (recs x xs) done most whole → seen mask names n first above x ≡ Err rule → whole ≡ Err rule
+    → IsLeft mask names above done most whole first (field name n gs) (recs x xs) → seen mask names n first above x ≡ Err rule → whole ≡ Err rule
 failed mask names above first name n gs x xs done most whole rule left e =
     sym left.seen ∙ ap (λ (r : Result (Option Json) Rule). ahead done (r >>= λ o. fields_seen mask names gs (first + width n) above xs >>= λ members. Ok (member name o ++ members))) e
 
 pub refused_left : {A : Type 0} → (show : A → List (List ℕ × Json)) (mask : ℕ → Bool) (names : List (List ℕ)) (above : ℕ) (first : ℕ) (name : List ℕ) (n : Group) (gs : Groups) (x : Rec) (xs : Recs) (done : List (List ℕ × Json)) (most : ℕ) (whole : Result (List (List ℕ × Json)) Rule) (refused : Refused Rule)
-    → IsLeft mask names above first (field name n gs) (recs x xs) done most whole → Makes {A = Option Tree} {F = Rule} (option_map view) (Err refused) (seen mask names n first above x) → Makes {F = Rule} show (Err refused) whole
+    → IsLeft mask names above done most whole first (field name n gs) (recs x xs) → Makes {A = Option Tree} {F = Rule} (option_map view) (Err refused) (seen mask names n first above x) → Makes {F = Rule} show (Err refused) whole
 refused_left show mask names above first name n gs x xs done most whole (Fault rule) left e = failed mask names above first name n gs x xs done most whole rule left e
 refused_left show mask names above first name n gs x xs done most whole NoMemory left e = tt
 
--- there is a record for each field
-pub as_many : (fs : List (List ℕ × Node)) (rs : List Record) → FieldsHaveShape (groups_from (map named fs)) (recs_from (map rec_of rs)) → length fs ≡ length rs
-as_many [] [] h = refl
-as_many [] (r ∷ rs) h = absurd h
-as_many (f ∷ fs) [] h = absurd h
-as_many (f ∷ fs) (r ∷ rs) h = ap suc (as_many fs rs h.1)
-
--- the first field that is left, with its record
-pub left_at : (mask : ℕ → Bool) (names : List (List ℕ)) (above : ℕ) (first : ℕ) (fs : List (List ℕ × Node)) (rs : List Record) (k : ℕ) (f g : List ℕ × Node) (r : Record) (done : List (List ℕ × Json)) (most : ℕ) (whole : Result (List (List ℕ × Json)) Rule)
-    → IsLeft mask names above first (groups_from (map named (drop k fs))) (recs_from (map rec_of (drop k rs))) done most whole → k < length fs → k < length rs → r ≡ get_or rs k r
-    → IsLeft mask names above first (field (get_or fs k f).0 (group_of (get_or fs k g).1) (groups_from (map named (drop (k + 1) fs)))) (recs (rec_of r) (recs_from (map rec_of (drop (k + 1) rs)))) done most whole
-left_at mask names above first fs rs k f g r done most whole left h i e =
-    subst (λ (gs : Groups). IsLeft mask names above first gs (recs (rec_of r) (recs_from (map rec_of (drop (k + 1) rs)))) done most whole) (fields_at fs k f g h)
-    (subst (λ (xs : Recs). IsLeft mask names above first (groups_from (map named (drop k fs))) xs done most whole) (recs_at rs k r i ∙ ap (λ (x : Record). recs (rec_of x) (recs_from (map rec_of (drop (k + 1) rs)))) (sym e)) left)
-
 pub nothing_left : (mask : ℕ → Bool) (names : List (List ℕ)) (above : ℕ) (first : ℕ) (xs : Recs) (done : List (List ℕ × Json)) (most : ℕ) (whole : Result (List (List ℕ × Json)) Rule)
-    → IsLeft mask names above first no_groups xs done most whole → whole ≡ Ok done
+    → IsLeft mask names above done most whole first no_groups xs → whole ≡ Ok done
 nothing_left mask names above first no_recs done most whole left = sym left.seen ∙ ap shown (append-nil done)
 nothing_left mask names above first (recs x xs) done most whole left = sym left.seen ∙ ap shown (append-nil done)
+
+-- a field of which no leaf is read is passed over
+pub passes_seen : (mask : ℕ → Bool) (names : List (List ℕ)) (above : ℕ) (done : List (List ℕ × Json)) (most : ℕ) (whole : Result (List (List ℕ × Json)) Rule) → Passes mask (IsLeft mask names above done most whole)
+passes_seen mask names above done most whole = record {
+  many = λ k name n gs left. left.shape;
+  over = λ k name n gs x xs e left. subst (λ (all : List (List ℕ × Json)). IsLeft mask names above all most whole (k + width n) gs xs) (append-nil done)
+      (turned mask names above k name n gs x xs done most whole None left (unread_seen mask names n k above x e));
+}
 
 -- the same of items, where `done` was seen
 

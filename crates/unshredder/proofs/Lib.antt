@@ -4,7 +4,9 @@ pub mod Fields
 pub mod Members
 pub mod Moved
 pub mod NoNames
+pub mod NextRead
 pub mod NodesRead
 pub mod Parts
-pub mod ValuesRead
+pub mod Unread
+pub mod ValuesLeft
 pub mod Walks

@@ -45,7 +45,7 @@ pub(crate) fn has_value(
 
 // `read` says whether some leaf of the part is read.
 #[cycle(needing)]
-#[tactic(auto, using(crate::proofs::ValuesRead::unread_part))]
+#[tactic(auto, using(crate::proofs::Unread::unread_part))]
 fn part_has_value(
     mask: &[bool],
     read: bool,
@@ -94,6 +94,7 @@ fn part_has_value(
     }
 }
 
+// Whether some field has such a value. Only those are looked at of which some leaf is read.
 #[cycle(needing)]
 fn fields_have_value(
     mask: &[bool],
@@ -104,35 +105,16 @@ fn fields_have_value(
 ) -> bool
     requires shape { FieldsHaveShape (groups_from (map named fields.now)) (recs_from (map rec_of records.now)) }
     requires leaves { leaf + groups_width (groups_from (map named fields.now)) < 2 ^ 32 }
-    requires readings { AreReadings (reads mask.now) (groups_from (map named fields.now)) leaf readings.now }
+    requires readings { AreReadings (reads mask.now) (groups_from (map named fields.now)) 0 leaf readings.now }
     ensures { result ≡ fields_have_value (reads mask.now) (groups_from (map named fields.now)) leaf (recs_from (map rec_of records.now)) }
 {
-    let mut first = leaf;
-    for k in 0..fields.len() {
-        let reading = &readings[k];
-        if field_has_value(mask, reading, &fields[k].1, first, &records[k]) {
+    for reading in readings {
+        let k = reading.place;
+        if has_value(mask, reading, &fields[k].1, reading.leaf, &records[k]) {
             return true;
         }
-        first += reading.leaves;
     }
     false
-}
-
-// A field, which has no value that is read where no leaf of it is.
-#[cycle(needing)]
-#[inline(always)]
-#[tactic(auto, using(crate::proofs::ValuesRead::unread_node))]
-fn field_has_value(mask: &[bool], reading: &Reading, node: &Node, leaf: usize, rec: &Record) -> bool
-    requires shape { HasShape (group_of node.now) (rec_of rec.now) }
-    requires leaves { leaf + width (group_of node.now) < 2 ^ 32 }
-    requires reading { IsReading (reads mask.now) (group_of node.now) leaf reading.now }
-    ensures { result ≡ has_value (reads mask.now) (group_of node.now) leaf (rec_of rec.now) }
-{
-    if reading.value || reading.typed {
-        has_value(mask, reading, node, leaf, rec)
-    } else {
-        false
-    }
 }
 
 #[cycle(needing)]

@@ -6,6 +6,7 @@ ghost use Rattle.json_tree.specs.Order.{sorted};
 ghost use Rattle.json_tree.specs.View.{seen};
 ghost use Rattle.vs_bytes.specs.Names.{repeats};
 
+use crate::readings::Reading;
 use json_tree::{Members, MembersFault, Tree};
 use shred_schema::Node;
 use sqlite_items::Items;
@@ -15,14 +16,24 @@ use vs_bytes::{NoMemory, Text};
 /// Moves: each of two places, whose members change places.
 pub(crate) type Moves = Items<(usize, usize)>;
 
-// The names of the fields in their order, each with the place of its field.
-fn named_places(alloc: Global, fields: &[(Text, Node)]) -> Result<Vec<(Text, usize)>, NoMemory> {
-    let mut named = Vec::with_capacity(alloc, fields.len())?;
-    for k in 0..fields.len() {
-        named.push((Text::from_str(alloc, fields[k].0.as_str())?, k))?;
+// Each of the fields that are read, counted from 0, in the order of their names.
+fn by_name(
+    alloc: Global,
+    fields: &[(Text, Node)],
+    readings: &[Reading],
+) -> Result<Vec<usize>, NoMemory> {
+    let mut named = Vec::with_capacity(alloc, readings.len())?;
+    for k in 0..readings.len() {
+        if let Some(field) = fields.get(readings[k].place) {
+            named.push((&field.0, k))?;
+        }
     }
-    named.sort_unstable_by(|a, b| a.0.cmp(&b.0));
-    Ok(named)
+    named.sort_unstable_by(|a, b| a.0.cmp(b.0));
+    let mut places = Vec::with_capacity(alloc, named.len())?;
+    for (_name, k) in &named {
+        places.push(*k)?;
+    }
+    Ok(places)
 }
 
 fn place_at(places: &[usize], k: usize) -> usize {
@@ -47,18 +58,22 @@ fn counted(alloc: Global, count: usize) -> Result<Vec<usize>, NoMemory> {
     Ok(numbers)
 }
 
-/// Moves by which the members of all fields, in the order of the file, come into the order of their names.
-pub(crate) fn moves_of(alloc: Global, fields: &[(Text, Node)]) -> Result<Moves, NoMemory> {
-    let named = named_places(alloc, fields)?;
-    let mut fields_at = counted(alloc, named.len())?;
-    let mut places_of = counted(alloc, named.len())?;
+/// Moves by which the members of the fields that are read, in the order of the file, come into the order of their names.
+pub(crate) fn moves_of(
+    alloc: Global,
+    fields: &[(Text, Node)],
+    readings: &[Reading],
+) -> Result<Moves, NoMemory> {
+    let sorted = by_name(alloc, fields, readings)?;
+    let mut members_at = counted(alloc, sorted.len())?;
+    let mut places_of = counted(alloc, sorted.len())?;
     let mut moves = Items::new(alloc);
-    for k in 0..named.len() {
-        let from = place_at(places_of.as_slice(), named[k].1);
+    for k in 0..sorted.len() {
+        let from = place_at(places_of.as_slice(), sorted[k]);
         if from != k {
             moves.push((k, from))?;
-            let other = place_at(fields_at.as_slice(), k);
-            set_place(fields_at.as_mut_slice(), from, other);
+            let other = place_at(members_at.as_slice(), k);
+            set_place(members_at.as_mut_slice(), from, other);
             set_place(places_of.as_mut_slice(), other, from);
         }
     }

@@ -155,7 +155,7 @@ fn with_fields(
     requires nodes { EachField HasEither MayHold (groups_from (map named fields.now)) }
     requires shape { FieldsHaveShape (groups_from (map named fields.now)) (recs_from (map rec_of records.now)) }
     requires leaves { leaf + groups_width (groups_from (map named fields.now)) < 2 ^ 32 }
-    requires readings { AreReadings (reads mask.now) (groups_from (map named fields.now)) leaf readings.now }
+    requires readings { AreReadings (reads mask.now) (groups_from (map named fields.now)) 0 leaf readings.now }
     requires deep { above + groups_nesting (groups_from (map named fields.now)) + 1 ≤ max_nesting }
     ensures { Makes (option_map view) result (with_fields (groups_from (map named fields.now)) (option_map json_of value.entry) (fields_seen (reads mask.now) (names_of meta.now) (groups_from (map named fields.now)) leaf (above + 1) (recs_from (map rec_of records.now)))) }
 {
@@ -177,7 +177,7 @@ fn with_fields(
     }
 }
 
-// The members that the fields give, after those that are left over.
+// The members that the fields give, after those that are left over. A field of which no leaf is read gives none.
 #[cycle(seen)]
 fn fields_seen(
     alloc: Global,
@@ -193,50 +193,30 @@ fn fields_seen(
     requires nodes { EachField HasEither MayHold (groups_from (map named fields.now)) }
     requires shape { FieldsHaveShape (groups_from (map named fields.now)) (recs_from (map rec_of records.now)) }
     requires leaves { leaf + groups_width (groups_from (map named fields.now)) < 2 ^ 32 }
-    requires readings { AreReadings (reads mask.now) (groups_from (map named fields.now)) leaf readings.now }
+    requires readings { AreReadings (reads mask.now) (groups_from (map named fields.now)) 0 leaf readings.now }
     requires deep { above + groups_nesting (groups_from (map named fields.now)) ≤ max_nesting }
     ensures { Makes (λ pairs. map pair_seen pairs.items) result (ahead (map pair_seen left.items) (fields_seen (reads mask.now) (names_of meta.now) (groups_from (map named fields.now)) leaf above (recs_from (map rec_of records.now)))) }
 {
     let mut left = left;
-    let mut first = leaf;
-    for k in 0..fields.len() {
+    for reading in readings {
+        let k = reading.place;
         let node = &fields[k].1;
-        let reading = &readings[k];
-        let found = match field_seen(alloc, mask, reading, meta, node, first, above, &records[k]) {
+        let found = match seen(
+            alloc,
+            mask,
+            reading,
+            meta,
+            node,
+            reading.leaf,
+            above,
+            &records[k],
+        ) {
             Ok(found) => found,
             Err(refused) => return Err(refused),
         };
         put_member(alloc, &fields[k].0, found, &mut left)?;
-        first += reading.leaves;
     }
     Ok(left)
-}
-
-// A field, which tells nothing where no leaf of it is read.
-#[cycle(seen)]
-#[inline(always)]
-fn field_seen(
-    alloc: Global,
-    mask: &[bool],
-    reading: &Reading,
-    meta: &MetaRef,
-    node: &Node,
-    leaf: usize,
-    above: u8,
-    rec: &Record,
-) -> Result<Option<Tree>, Refusal>
-    requires nodes { AreNodes (group_of node.now) }
-    requires shape { HasShape (group_of node.now) (rec_of rec.now) }
-    requires leaves { leaf + width (group_of node.now) < 2 ^ 32 }
-    requires reading { IsReading (reads mask.now) (group_of node.now) leaf reading.now }
-    requires deep { above + nesting (group_of node.now) ≤ max_nesting }
-    ensures { Makes (option_map view) result (seen (reads mask.now) (names_of meta.now) (group_of node.now) leaf above (rec_of rec.now)) }
-{
-    if reading.value || reading.typed {
-        seen(alloc, mask, reading, meta, node, leaf, above, rec)
-    } else {
-        Ok(None)
-    }
 }
 
 // A list, beside which no value may stand.

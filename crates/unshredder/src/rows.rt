@@ -41,7 +41,7 @@ impl Reading {
         requires { IsWellFormed (group_of column.now.node) }
         ensures { IfOk result (λ reading. IsReading (reads mask.now) (group_of column.now.node) 1 reading) }
     {
-        reading_of(alloc, mask.as_slice(), &column.node, 1)
+        reading_of(alloc, mask.as_slice(), &column.node, 1, 0)
     }
 
     /// The row of a row record, as `unshred` gives it. The column and the mask are those that `new` was given.

@@ -1,12 +1,13 @@
-use Rattle.std.proofs.Common.{◌≡◌, ◌∙◌, ◌+◌, sym, ap, map, option_map, arith}
-use Rattle.shred_schema.specs.Groups.{list_of, object_of, groups_from, groups_width, groups_nesting, kind_nesting}
+use Rattle.std.proofs.Common.{◌≡◌, ◌∙◌, ◌+◌, sym, ap, ◌<◌, length, map, option_map, rules, arith}
+use Rattle.shred_schema.specs.Groups.{list_of, object_of, groups_from, kind_nesting}
 use Rattle.shred_schema.specs.Recs.{items, fields, recs_from}
 use Rattle.shred_schema.specs.Views.{group_of, kind_of, part_of, part_or_empty, rec_of, named}
-use Rattle.shred_schema.proofs.Viewed.{kind_is_list, kind_is_object, fields_at}
-use Rattle.unshredder.proofs.Ahead.{as_many}
-use Rattle.unshredder.proofs.NodesRead.{of_element, of_fields, readings_many, readings_turn}
+use Rattle.shred_schema.proofs.Viewed.{kind_is_list, kind_is_object}
+use Rattle.unshredder.specs.declared.readings.Reading.{out-Reading}
+use Rattle.unshredder.proofs.NextRead.{next_read, all_read}
+use Rattle.unshredder.proofs.NodesRead.{of_element, of_fields}
 use Rattle.unshredder.proofs.Parts.{list_shape, list_leaves, object_shape, object_leaves, part_items, part_fields}
-use Rattle.unshredder.proofs.ValuesRead.{value_turn, shape_turn}
+use Rattle.unshredder.proofs.ValuesLeft.{has_none, has_one, none_has, passes_values}
 use Rattle.unshredder.proofs.needing.+needing.Goals as goal
 
 pub part_has_value-any_has_value-requires : goal.part_has_value-any_has_value-requires
@@ -33,23 +34,52 @@ part_has_value-fields_have_value-requires t c =
     part_fields _ _ _ _ c.in-Some.is c.in-Fields-part.is c.as_slice-in-Fields-part.ensures in
     (omega (arith, ap kind_nesting kind), (object_shape _ _ _ _ kind part c.requires.shape, (object_leaves _ _ c.args.leaf kind c.requires.leaves, of_fields _ _ _ _ _ kind c.requires.readings)))
 
-pub fields_have_value-bounds-readings-k : goal.fields_have_value-bounds-readings-k
-fields_have_value-bounds-readings-k t c = omega (arith, readings_many _ _ c.args.fields.now c.args.readings.now c.requires.readings, c.loop-k-test.true)
+pub fields_have_value-bounds-fields-k : goal.fields_have_value-bounds-fields-k
+fields_have_value-bounds-fields-k t c =
+    let next = next_read _ _ c.args.fields.now c.args.records.now c.args.readings.now c.loop-reading.reading-index c.reading-item.result (passes_values _ _ _) c.loop-reading.invariant (omega (arith, c.loop-reading-test.true)) c.reading-item.is in
+    next.is_field
 
-pub fields_have_value-overflow_add-first : goal.fields_have_value-overflow_add-first
-fields_have_value-overflow_add-first t c =
-    let turn = readings_turn _ _ c.args.fields.now c.args.readings.now c.loop-k.k c.index-fields-k.result c.index-readings-k.result c.loop-k.invariant.readings c.loop-k-test.true c.index-readings-k.is in
-    omega (arith, turn.leaves, ap groups_width (fields_at c.args.fields.now c.loop-k.k c.index-fields-k.result c.index-fields-k.result c.loop-k-test.true), c.loop-k.invariant.leaves)
+pub fields_have_value-offset_bounds-fields-k : goal.fields_have_value-offset_bounds-fields-k
+fields_have_value-offset_bounds-fields-k t c =
+    let next = next_read _ _ c.args.fields.now c.args.records.now c.args.readings.now c.loop-reading.reading-index c.reading-item.result (passes_values _ _ _) c.loop-reading.invariant (omega (arith, c.loop-reading-test.true)) c.reading-item.is in
+    let within : (out-Reading c.reading-item.result).place < length c.args.fields.now = next.is_field in
+    search rules
 
-pub fields_have_value-loop-k-preserved : goal.fields_have_value-loop-k-preserved
-fields_have_value-loop-k-preserved t c =
-    let many = as_many c.args.fields.now c.args.records.now c.requires.shape in
-    let turn = readings_turn _ _ c.args.fields.now c.args.readings.now c.loop-k.k c.index-fields-k.result c.index-readings-k.result c.loop-k.invariant.readings c.loop-k-test.true c.index-readings-k.is in
-    let at = fields_at c.args.fields.now c.loop-k.k c.index-fields-k.result c.index-fields-k.result c.loop-k-test.true in
+pub fields_have_value-offset_bounds-records-k : goal.fields_have_value-offset_bounds-records-k
+fields_have_value-offset_bounds-records-k t c =
+    let next = next_read _ _ c.args.fields.now c.args.records.now c.args.readings.now c.loop-reading.reading-index c.reading-item.result (passes_values _ _ _) c.loop-reading.invariant (omega (arith, c.loop-reading-test.true)) c.reading-item.is in
+    let within : (out-Reading c.reading-item.result).place < length c.args.records.now = next.is_record in
+    search rules
+
+pub fields_have_value-bounds-records-k : goal.fields_have_value-bounds-records-k
+fields_have_value-bounds-records-k t c =
+    let next = next_read _ _ c.args.fields.now c.args.records.now c.args.readings.now c.loop-reading.reading-index c.reading-item.result (passes_values _ _ _) c.loop-reading.invariant (omega (arith, c.loop-reading-test.true)) c.reading-item.is in
+    next.is_record
+
+pub fields_have_value-has_value-requires : goal.fields_have_value-has_value-requires
+fields_have_value-has_value-requires t c =
+    let next = next_read _ _ c.args.fields.now c.args.records.now c.args.readings.now c.loop-reading.reading-index c.reading-item.result (passes_values _ _ _) c.loop-reading.invariant (omega (arith, c.loop-reading-test.true)) c.reading-item.is in
+    let left = next.left c.index-fields-k.result c.index-fields-k.result c.index-records-k.result c.index-records-k.is in
+    (omega (arith, left.inside), (left.shape.0, (omega (arith, left.leaves), next.here c.index-fields-k.result)))
+
+pub fields_have_value-returns-then-has_value : goal.fields_have_value-returns-then-has_value
+fields_have_value-returns-then-has_value t c =
+    let next = next_read _ _ c.args.fields.now c.args.records.now c.args.readings.now c.loop-reading.reading-index c.reading-item.result (passes_values _ _ _) c.loop-reading.invariant (omega (arith, c.loop-reading-test.true)) c.reading-item.is in
+    let left = next.left c.index-fields-k.result c.index-fields-k.result c.index-records-k.result c.index-records-k.is in
+    has_one _ _ _ _ _ _ _ _ _ left (sym c.has_value.ensures ∙ c.if-has_value.true)
+
+pub fields_have_value-loop-reading-preserved : goal.fields_have_value-loop-reading-preserved
+fields_have_value-loop-reading-preserved t c =
+    let next = next_read _ _ c.args.fields.now c.args.records.now c.args.readings.now c.loop-reading.reading-index c.reading-item.result (passes_values _ _ _) c.loop-reading.invariant (omega (arith, c.loop-reading-test.true)) c.reading-item.is in
+    let left = next.left c.index-fields-k.result c.index-fields-k.result c.index-records-k.result c.index-records-k.is in
     record {
-      shape = shape_turn c.args.fields.now c.args.records.now c.loop-k.k c.index-fields-k.result c.index-records-k.result c.loop-k-test.true (omega (arith, many, c.loop-k-test.true)) c.loop-k.invariant.shape;
-      leaves = omega (arith, turn.leaves, ap groups_width at, c.loop-k.invariant.leaves);
-      readings = turn.more;
-      nesting = omega (arith, ap groups_nesting at, c.loop-k.invariant.nesting);
-      same = value_turn _ _ _ c.args.fields.now c.args.records.now c.loop-k.k c.index-fields-k.result c.index-records-k.result _ c.loop-k-test.true (omega (arith, many, c.loop-k-test.true)) c.index-records-k.is c.loop-k.invariant.same (sym c.field_has_value.ensures ∙ c.if-field_has_value.false) (ap (λ n. c.loop-k.first + n) (sym turn.leaves));
+      place = (out-Reading c.reading-item.result).place + 1;
+      first = _;
+      left = has_none _ _ _ _ _ _ _ _ _ left (sym c.has_value.ensures ∙ c.if-has_value.false);
+      readings = next.more c.index-fields-k.result;
     }
+
+pub fields_have_value-returns : goal.fields_have_value-returns
+fields_have_value-returns t c =
+    let all = all_read _ _ c.args.fields.now c.args.records.now c.args.readings.now c.loop-reading.reading-index (passes_values _ _ _) c.loop-reading.invariant (omega (arith, c.loop-reading-test.false)) in
+    none_has _ _ _ _ _ all.1.1

@@ -1,38 +1,30 @@
-use Rattle.std.proofs.Common.{◌≡◌, ◌+◌, ◌*◌, ◌≤◌, ◌<◌, ◌^◌, map, drop}
-use Rattle.shred_schema.specs.Groups.{nesting, kind_nesting, groups_nesting, groups_width, groups_from}
+use Rattle.std.proofs.Common.{◌≡◌, ◌+◌, ◌*◌, map, drop}
+use Rattle.shred_schema.specs.Groups.{nesting, kind_nesting, groups_nesting, groups_from}
 use Rattle.shred_schema.specs.Ranges.{reads}
 use Rattle.shred_schema.specs.Recs.{recs_from, EachRec}
-use Rattle.shred_schema.specs.Shapes.{HasShape, FieldsHaveShape}
+use Rattle.shred_schema.specs.Shapes.{HasShape}
 use Rattle.shred_schema.specs.Views.{group_of, kind_of, rec_of, named}
-use Rattle.unshredder.specs.Readings.{AreReadings}
 use Rattle.unshredder.specs.Rows.{has_value, fields_have_value, any_rec}
+use Rattle.unshredder.proofs.NextRead.{AreAhead}
+use Rattle.unshredder.proofs.ValuesLeft.{AreLeft}
 use Rattle.unshredder.proofs.needing.+needing.Given as goal
 
 -- a node, its typed part, what is inside it, and back to a node
 
 abbrev pub decreases-has_value : goal.decreases-has_value
-decreases-has_value l = 5 * nesting (group_of l.node.now) + 1
+decreases-has_value l = 4 * nesting (group_of l.node.now) + 1
 
 abbrev pub decreases-part_has_value : goal.decreases-part_has_value
-decreases-part_has_value l = 5 * kind_nesting (kind_of l.typed.now)
+decreases-part_has_value l = 4 * kind_nesting (kind_of l.typed.now)
 
 abbrev pub decreases-fields_have_value : goal.decreases-fields_have_value
-decreases-fields_have_value l = 5 * groups_nesting (groups_from (map named l.fields.now)) + 3
+decreases-fields_have_value l = 4 * groups_nesting (groups_from (map named l.fields.now)) + 3
 
 abbrev pub decreases-any_has_value : goal.decreases-any_has_value
-decreases-any_has_value l = 5 * nesting (group_of l.node.now) + 2
+decreases-any_has_value l = 4 * nesting (group_of l.node.now) + 2
 
-abbrev pub decreases-field_has_value : goal.decreases-field_has_value
-decreases-field_has_value l = 5 * nesting (group_of l.node.now) + 2
-
-abbrev pub invariant-fields_have_value-loop-k : goal.invariant-fields_have_value-loop-k
-invariant-fields_have_value-loop-k l = record {
-  shape : FieldsHaveShape (groups_from (map named (drop l.k l.fields))) (recs_from (map rec_of (drop l.k l.records)));
-  leaves : l.first + groups_width (groups_from (map named (drop l.k l.fields))) < 2 ^ 32;
-  readings : AreReadings (reads l.mask) (groups_from (map named (drop l.k l.fields))) l.first (drop l.k l.readings);
-  nesting : groups_nesting (groups_from (map named (drop l.k l.fields))) ≤ groups_nesting (groups_from (map named l.fields));
-  same : fields_have_value (reads l.mask) (groups_from (map named (drop l.k l.fields))) l.first (recs_from (map rec_of (drop l.k l.records))) ≡ fields_have_value (reads l.mask) (groups_from (map named l.fields)) l.leaf (recs_from (map rec_of l.records));
-}
+abbrev pub invariant-fields_have_value-loop-reading : goal.invariant-fields_have_value-loop-reading
+invariant-fields_have_value-loop-reading l = AreAhead (reads l.mask) (AreLeft (reads l.mask) (groups_nesting (groups_from (map named l.fields))) (fields_have_value (reads l.mask) (groups_from (map named l.fields)) l.leaf (recs_from (map rec_of l.records)))) l.fields l.records (drop l.reading-index l.readings)
 
 abbrev pub invariant-any_has_value-loop-rec : goal.invariant-any_has_value-loop-rec
 invariant-any_has_value-loop-rec l = record {

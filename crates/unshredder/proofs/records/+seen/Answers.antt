@@ -1,15 +1,15 @@
-use Rattle.std.proofs.Common.{◌≡◌, ◌∙◌, refl, sym, ap, map, option_map, arith, Vec, Global}
+use Rattle.std.proofs.Common.{◌≡◌, ◌∙◌, ◌+◌, refl, sym, ap, ◌<◌, length, map, option_map, rules, arith, Vec, Global}
 use Rattle.json_tree.specs.View.{view, seen as pair_seen}
 use Rattle.json_tree.specs.declared.types.Tree.{Tree}
 use Rattle.vs_bytes.specs.declared.utf8_text.Text.{Text}
-use Rattle.variant_meta.specs.MetaRefs.{names_of}
-use Rattle.shred_schema.specs.Groups.{list_of, object_of, groups_from, groups_nesting, kind_nesting}
-use Rattle.shred_schema.specs.Ranges.{reads}
+use Rattle.shred_schema.specs.Groups.{list_of, object_of, groups_from, kind_nesting}
 use Rattle.shred_schema.specs.Recs.{items, fields, recs_from}
 use Rattle.shred_schema.specs.Views.{group_of, kind_of, part_of, part_or_empty, rec_of, named}
 use Rattle.shred_schema.proofs.Viewed.{kind_is_list, kind_is_object}
-use Rattle.unshredder.proofs.Ahead.{as_many, left_at, turned, refused_left, items_whole}
-use Rattle.unshredder.proofs.NodesRead.{of_element, of_fields, readings_turn}
+use Rattle.unshredder.proofs.Ahead.{turned, refused_left, nothing_left, passes_seen, items_whole}
+use Rattle.unshredder.specs.declared.readings.Reading.{out-Reading}
+use Rattle.unshredder.proofs.NextRead.{next_read, all_read}
+use Rattle.unshredder.proofs.NodesRead.{of_element, of_fields}
 use Rattle.unshredder.proofs.Parts.{list_nodes, list_shape, list_leaves, list_deep, object_nodes, object_shape, object_leaves, object_deep, part_items, part_fields}
 use Rattle.unshredder.proofs.records.+seen.Goals as goal
 
@@ -46,28 +46,66 @@ typed_seen-with_fields-requires t c =
     let nodes = object_nodes _ _ kind c.requires.nodes in
     (omega (arith, ap kind_nesting kind), (nodes.0, (nodes.1, (object_shape _ _ _ _ kind part c.requires.shape, (object_leaves _ _ c.args.leaf kind c.requires.leaves, (of_fields _ _ _ _ _ kind c.requires.readings, object_deep _ _ c.args.above kind c.requires.deep))))))
 
+pub fields_seen-bounds-fields-k : goal.fields_seen-bounds-fields-k
+fields_seen-bounds-fields-k t c =
+    let next = next_read _ _ c.args.fields.now c.args.records.now c.args.readings.now c.loop-reading.reading-index c.reading-item.result (passes_seen _ _ _ _ _ _) c.loop-reading.invariant (omega (arith, c.loop-reading-test.true)) c.reading-item.is in
+    next.is_field
+
+pub fields_seen-bounds-fields-k-in-loop-reading : goal.fields_seen-bounds-fields-k-in-loop-reading
+fields_seen-bounds-fields-k-in-loop-reading t c =
+    let next = next_read _ _ c.args.fields.now c.args.records.now c.args.readings.now c.loop-reading.reading-index c.reading-item.result (passes_seen _ _ _ _ _ _) c.loop-reading.invariant (omega (arith, c.loop-reading-test.true)) c.reading-item.is in
+    next.is_field
+
+pub fields_seen-offset_bounds-fields-k : goal.fields_seen-offset_bounds-fields-k
+fields_seen-offset_bounds-fields-k t c =
+    let next = next_read _ _ c.args.fields.now c.args.records.now c.args.readings.now c.loop-reading.reading-index c.reading-item.result (passes_seen _ _ _ _ _ _) c.loop-reading.invariant (omega (arith, c.loop-reading-test.true)) c.reading-item.is in
+    let within : (out-Reading c.reading-item.result).place < length c.args.fields.now = next.is_field in
+    search rules
+
+pub fields_seen-offset_bounds-records-k : goal.fields_seen-offset_bounds-records-k
+fields_seen-offset_bounds-records-k t c =
+    let next = next_read _ _ c.args.fields.now c.args.records.now c.args.readings.now c.loop-reading.reading-index c.reading-item.result (passes_seen _ _ _ _ _ _) c.loop-reading.invariant (omega (arith, c.loop-reading-test.true)) c.reading-item.is in
+    let within : (out-Reading c.reading-item.result).place < length c.args.records.now = next.is_record in
+    search rules
+
+pub fields_seen-offset_bounds-fields-k-in-loop-reading : goal.fields_seen-offset_bounds-fields-k-in-loop-reading
+fields_seen-offset_bounds-fields-k-in-loop-reading t c =
+    let next = next_read _ _ c.args.fields.now c.args.records.now c.args.readings.now c.loop-reading.reading-index c.reading-item.result (passes_seen _ _ _ _ _ _) c.loop-reading.invariant (omega (arith, c.loop-reading-test.true)) c.reading-item.is in
+    let within : (out-Reading c.reading-item.result).place < length c.args.fields.now = next.is_field in
+    search rules
+
+pub fields_seen-bounds-records-k : goal.fields_seen-bounds-records-k
+fields_seen-bounds-records-k t c =
+    let next = next_read _ _ c.args.fields.now c.args.records.now c.args.readings.now c.loop-reading.reading-index c.reading-item.result (passes_seen _ _ _ _ _ _) c.loop-reading.invariant (omega (arith, c.loop-reading-test.true)) c.reading-item.is in
+    next.is_record
+
+pub fields_seen-seen-requires : goal.fields_seen-seen-requires
+fields_seen-seen-requires t c =
+    let next = next_read _ _ c.args.fields.now c.args.records.now c.args.readings.now c.loop-reading.reading-index c.reading-item.result (passes_seen _ _ _ _ _ _) c.loop-reading.invariant (omega (arith, c.loop-reading-test.true)) c.reading-item.is in
+    let left = next.left c.index-fields-k.result c.index-fields-k.result c.index-records-k.result c.index-records-k.is in
+    (omega (arith, left.inside), (left.nodes.0, (left.shape.0, (omega (arith, left.leaves), (next.here c.index-fields-k.result, omega (arith, left.inside, c.requires.deep))))))
+
 pub fields_seen-returns-in-Err : goal.fields_seen-returns-in-Err
 fields_seen-returns-in-Err t c =
-    let many = as_many c.args.fields.now c.args.records.now c.requires.shape in
-    let left = left_at (reads c.args.mask.now) (names_of c.args.meta.now) c.args.above c.loop-k.first c.args.fields.now c.args.records.now c.loop-k.k c.index-fields-k.result c.index-fields-k.result c.index-records-k.result (map pair_seen c.loop-k.left.items) (groups_nesting (groups_from (map named c.args.fields.now))) _ c.loop-k.invariant.left (omega arith) (omega (arith, many)) c.index-records-k.is in
+    let next = next_read _ _ c.args.fields.now c.args.records.now c.args.readings.now c.loop-reading.reading-index c.reading-item.result (passes_seen _ _ _ _ _ _) c.loop-reading.invariant (omega (arith, c.loop-reading-test.true)) c.reading-item.is in
+    let left = next.left c.index-fields-k.result c.index-fields-k.result c.index-records-k.result c.index-records-k.is in
     refused_left {A = Vec (Text × Tree) Global} (λ pairs. map pair_seen pairs.items) _ _ _ _ _ _ _ _ _ _ _ _ _ left c.in-Err.ensures
 
-pub fields_seen-overflow_add-first : goal.fields_seen-overflow_add-first
-fields_seen-overflow_add-first t c =
-    let many = as_many c.args.fields.now c.args.records.now c.requires.shape in
-    let turn = readings_turn _ _ c.args.fields.now c.args.readings.now c.loop-k.k c.index-fields-k.result c.index-readings-k.result c.loop-k.invariant.readings c.loop-k-test.true c.index-readings-k.is in
-    let left = left_at (reads c.args.mask.now) (names_of c.args.meta.now) c.args.above c.loop-k.first c.args.fields.now c.args.records.now c.loop-k.k c.index-fields-k.result c.index-fields-k.result c.index-records-k.result (map pair_seen c.loop-k.left.items) (groups_nesting (groups_from (map named c.args.fields.now))) _ c.loop-k.invariant.left (omega arith) (omega (arith, many)) c.index-records-k.is in
-    omega (arith, turn.leaves, left.leaves)
-
-pub fields_seen-loop-k-preserved : goal.fields_seen-loop-k-preserved
-fields_seen-loop-k-preserved t c =
-    let many = as_many c.args.fields.now c.args.records.now c.requires.shape in
-    let left = left_at (reads c.args.mask.now) (names_of c.args.meta.now) c.args.above c.loop-k.first c.args.fields.now c.args.records.now c.loop-k.k c.index-fields-k-in-loop-k.result c.index-fields-k.result c.index-records-k.result (map pair_seen c.loop-k.left.items) (groups_nesting (groups_from (map named c.args.fields.now))) _ c.loop-k.invariant.left (omega arith) (omega (arith, many)) c.index-records-k.is in
-    let turn = readings_turn _ _ c.args.fields.now c.args.readings.now c.loop-k.k c.index-fields-k.result c.index-readings-k.result c.loop-k.invariant.readings c.loop-k-test.true c.index-readings-k.is in
+pub fields_seen-loop-reading-preserved : goal.fields_seen-loop-reading-preserved
+fields_seen-loop-reading-preserved t c =
+    let next = next_read _ _ c.args.fields.now c.args.records.now c.args.readings.now c.loop-reading.reading-index c.reading-item.result (passes_seen _ _ _ _ _ _) c.loop-reading.invariant (omega (arith, c.loop-reading-test.true)) c.reading-item.is in
+    let left = next.left c.index-fields-k-in-loop-reading.result c.index-fields-k.result c.index-records-k.result c.index-records-k.is in
     record {
-      left = rw (turn.leaves, c.in_ok-put_member.ensures) (turned _ _ _ _ _ _ _ _ _ _ _ _ (option_map view c.in-Ok.found) left c.in-Ok.ensures);
-      readings = turn.more;
+      place = (out-Reading c.reading-item.result).place + 1;
+      first = _;
+      left = rw c.in_ok-put_member.ensures (turned _ _ _ _ _ _ _ _ _ _ _ _ (option_map view c.in-Ok.found) left c.in-Ok.ensures);
+      readings = next.more c.index-fields-k.result;
     }
+
+pub fields_seen-returns : goal.fields_seen-returns
+fields_seen-returns t c =
+    let all = all_read _ _ c.args.fields.now c.args.records.now c.args.readings.now c.loop-reading.reading-index (passes_seen _ _ _ _ _ _) c.loop-reading.invariant (omega (arith, c.loop-reading-test.false)) in
+    nothing_left _ _ _ _ _ _ _ _ all.1.1
 
 pub items_seen-returns : goal.items_seen-returns
 items_seen-returns t c = items_whole _ _ _ c.args.records.now c.loop-rec.rec-index (map view c.loop-rec.trees.items) _ refl (omega (arith, c.loop-rec-test.false)) c.loop-rec.invariant.ahead c.from_vec.ensures

@@ -6,39 +6,33 @@ use Rattle.shred_schema.specs.Ranges.{reads}
 use Rattle.shred_schema.specs.Recs.{recs_from, EachRec}
 use Rattle.shred_schema.specs.Shapes.{HasShape}
 use Rattle.shred_schema.specs.Views.{group_of, kind_of, rec_of, named}
-use Rattle.unshredder.specs.Readings.{AreReadings}
 use Rattle.unshredder.specs.Seen.{seen, fields_seen, items_seen, is_tested, ahead}
 use Rattle.unshredder.proofs.Ahead.{IsLeft, elements_ahead}
+use Rattle.unshredder.proofs.NextRead.{AreAhead}
 use Rattle.unshredder.proofs.records.+seen.Given as goal
 
 -- a node, its typed part, what is inside it, and back to a node
 
 abbrev pub decreases-seen : goal.decreases-seen
-decreases-seen l = 6 * nesting (group_of l.node.now) + 2
+decreases-seen l = 5 * nesting (group_of l.node.now) + 2
 
 abbrev pub decreases-typed_seen : goal.decreases-typed_seen
-decreases-typed_seen l = 6 * kind_nesting (kind_of l.typed.now) + 1
+decreases-typed_seen l = 5 * kind_nesting (kind_of l.typed.now) + 1
 
 abbrev pub decreases-with_fields : goal.decreases-with_fields
-decreases-with_fields l = 6 * groups_nesting (groups_from (map named l.fields.now)) + 5
+decreases-with_fields l = 5 * groups_nesting (groups_from (map named l.fields.now)) + 4
 
 abbrev pub decreases-fields_seen : goal.decreases-fields_seen
-decreases-fields_seen l = 6 * groups_nesting (groups_from (map named l.fields.now)) + 4
+decreases-fields_seen l = 5 * groups_nesting (groups_from (map named l.fields.now)) + 3
 
 abbrev pub decreases-with_items : goal.decreases-with_items
-decreases-with_items l = 6 * nesting (group_of l.node.now) + 5
+decreases-with_items l = 5 * nesting (group_of l.node.now) + 4
 
 abbrev pub decreases-items_seen : goal.decreases-items_seen
-decreases-items_seen l = 6 * nesting (group_of l.node.now) + 4
+decreases-items_seen l = 5 * nesting (group_of l.node.now) + 3
 
-abbrev pub decreases-field_seen : goal.decreases-field_seen
-decreases-field_seen l = 6 * nesting (group_of l.node.now) + 3
-
-abbrev pub invariant-fields_seen-loop-k : goal.invariant-fields_seen-loop-k
-invariant-fields_seen-loop-k l = record {
-  left : IsLeft (reads l.mask) (names_of l.fn.meta) l.above l.first (groups_from (map named (drop l.k l.fields))) (recs_from (map rec_of (drop l.k l.records))) (map pair_seen l.left.items) (groups_nesting (groups_from (map named l.fields))) (ahead (map pair_seen l.fn.left.items) (fields_seen (reads l.mask) (names_of l.fn.meta) (groups_from (map named l.fields)) l.leaf l.above (recs_from (map rec_of l.records))));
-  readings : AreReadings (reads l.mask) (groups_from (map named (drop l.k l.fields))) l.first (drop l.k l.readings);
-}
+abbrev pub invariant-fields_seen-loop-reading : goal.invariant-fields_seen-loop-reading
+invariant-fields_seen-loop-reading l = AreAhead (reads l.mask) (IsLeft (reads l.mask) (names_of l.fn.meta) l.above (map pair_seen l.left.items) (groups_nesting (groups_from (map named l.fields))) (ahead (map pair_seen l.fn.left.items) (fields_seen (reads l.mask) (names_of l.fn.meta) (groups_from (map named l.fields)) l.leaf l.above (recs_from (map rec_of l.records))))) l.fields l.records (drop l.reading-index l.readings)
 
 abbrev pub invariant-items_seen-loop-rec : goal.invariant-items_seen-loop-rec
 invariant-items_seen-loop-rec l = record {

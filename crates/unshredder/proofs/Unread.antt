@@ -1,16 +1,10 @@
--- A typed part of which no leaf is read has no value that is read.
-use Rattle.std.proofs.Common.{◌≡◌, ◌∙◌, sym, ap, ap₂, subst, refl, ℕ, zero, suc, ◌+◌, ◌<◌, List, drop, get_or, length, map, Bool, true, false, not, ◌&&◌, ◌||◌, zero-add, add-zero, arith}
+-- A node of which no leaf is read tells nothing, and has no value that is read.
+use Rattle.std.proofs.Common.{◌≡◌, ◌∙◌, sym, ap, refl, ℕ, zero, suc, ◌+◌, List, Bool, true, false, not, ◌&&◌, ◌||◌, Some, None, Ok, zero-add, add-zero, arith}
 use Rattle.std.specs.Prelude.{is_some}
-use Rattle.shred_schema.specs.Groups.{Group, group, Kind, free, scalar, object_of, list_of, Groups, no_groups, field, slot_width, width, kind_width, groups_width, groups_from}
+use Rattle.shred_schema.specs.Groups.{Group, group, Kind, free, scalar, object_of, list_of, Groups, no_groups, field, slot_width, width, kind_width, groups_width}
 use Rattle.shred_schema.specs.Ranges.{none_read, is_any_read}
-use Rattle.shred_schema.specs.Recs.{Rec, rec, RecPart, empty, cell, fields, items, Recs, no_recs, recs, recs_from}
-use Rattle.shred_schema.specs.Shapes.{FieldsHaveShape}
-use Rattle.shred_schema.specs.Views.{group_of, rec_of, named}
-use Rattle.shred_schema.specs.declared.nodes.Node.{Node}
-use Rattle.shred_schema.specs.declared.records.Record.{Record}
-use Rattle.shred_schema.proofs.Viewed.{fields_at, recs_at}
-use Rattle.unshredder.specs.Readings.{IsReading}
-use Rattle.unshredder.specs.declared.readings.Reading.{Reading, out-Reading}
+use Rattle.shred_schema.specs.Recs.{Rec, rec, RecPart, empty, cell, fields, items, Recs, no_recs, recs}
+use Rattle.unshredder.specs.Seen.{seen}
 use Rattle.unshredder.specs.Rows.{has_value, part_has_value, fields_have_value, any_rec}
 
 parted : (a b c : Bool) → (a && b) && c ≡ a && (b && c)
@@ -35,6 +29,14 @@ both_none whole false right e h = absurd (let wrong : true ≡ false = ap not (s
 neither_read : (mask : ℕ → Bool) (k a b : ℕ) → is_any_read mask k (a + b) ≡ false → (is_any_read mask k a ≡ false) × (is_any_read mask (k + a) b ≡ false)
 neither_read mask k a b h = both_none (none_read mask k (a + b)) (none_read mask k a) (none_read mask (k + a) b) (none_split mask k a b) h
 
+pub unread_seen : (mask : ℕ → Bool) (names : List (List ℕ)) (n : Group) (k above : ℕ) (x : Rec) → is_any_read mask k (width n) ≡ false → seen mask names n k above x ≡ Ok None
+unread_seen mask names (group s t) k above (rec None p) h =
+    let apart = neither_read mask k (slot_width s) (kind_width t) h in
+    rw apart.1 refl
+unread_seen mask names (group s t) k above (rec (Some bytes) p) h =
+    let apart = neither_read mask k (slot_width s) (kind_width t) h in
+    rw (apart.0, apart.1) refl
+
 not_there : (there read : Bool) → read ≡ false → there && read ≡ false
 not_there true read h = h
 not_there false read h = refl
@@ -47,7 +49,7 @@ none_of p h no_recs = refl
 none_of p h (recs x xs) = neither (p x) (any_rec p xs) (h x) (none_of p h xs)
 
 mutual
-  none_there : (n : Group) (mask : ℕ → Bool) (k : ℕ) (x : Rec) → is_any_read mask k (width n) ≡ false → has_value mask n k x ≡ false
+  pub none_there : (n : Group) (mask : ℕ → Bool) (k : ℕ) (x : Rec) → is_any_read mask k (width n) ≡ false → has_value mask n k x ≡ false
   none_there (group s t) mask k (rec v p) h =
       let apart = neither_read mask k (slot_width s) (kind_width t) h in
       neither (is_some v && is_any_read mask k (slot_width s)) (part_has_value mask t (k + slot_width s) p)
@@ -74,32 +76,3 @@ mutual
 
 pub unread_part : (read : Bool) (t : Kind) (mask : ℕ → Bool) (k : ℕ) (p : RecPart) → read ≡ is_any_read mask k (kind_width t) → read ≡ false → false ≡ part_has_value mask t k p
 unread_part read t mask k p e f = sym (none_in_part t mask k p (sym e ∙ f))
-
--- the fields after one that has no value
-pub value_turn : (mask : ℕ → Bool) (first next : ℕ) (fs : List (List ℕ × Node)) (rs : List Record) (k : ℕ) (f : List ℕ × Node) (x : Record) (whole : Bool)
-    → k < length fs → k < length rs → x ≡ get_or rs k x
-    → fields_have_value mask (groups_from (map named (drop k fs))) first (recs_from (map rec_of (drop k rs))) ≡ whole
-    → has_value mask (group_of (get_or fs k f).1) first (rec_of x) ≡ false → first + width (group_of (get_or fs k f).1) ≡ next
-    → fields_have_value mask (groups_from (map named (drop (k + 1) fs))) next (recs_from (map rec_of (drop (k + 1) rs))) ≡ whole
-value_turn mask first next fs rs k f x whole h i e w none n =
-    let rest = groups_from (map named (drop (k + 1) fs)) in
-    let later = recs_from (map rec_of (drop (k + 1) rs)) in
-    let here : has_value mask (group_of (get_or fs k f).1) first (rec_of (get_or rs k x)) ≡ false = ap (λ (y : Record). has_value mask (group_of (get_or fs k f).1) first (rec_of y)) (sym e) ∙ none in
-    ap (λ (j : ℕ). fields_have_value mask rest j later) (sym n)
-    ∙ sym (ap (λ (b : Bool). b || fields_have_value mask rest (first + width (group_of (get_or fs k f).1)) later) here)
-    ∙ sym (ap₂ (λ (gs : Groups) (xs : Recs). fields_have_value mask gs first xs) (fields_at fs k f f h) (recs_at rs k x i))
-    ∙ w
-
-pub shape_turn : (fs : List (List ℕ × Node)) (rs : List Record) (k : ℕ) (f : List ℕ × Node) (x : Record) → k < length fs → k < length rs
-    → FieldsHaveShape (groups_from (map named (drop k fs))) (recs_from (map rec_of (drop k rs))) → FieldsHaveShape (groups_from (map named (drop (k + 1) fs))) (recs_from (map rec_of (drop (k + 1) rs)))
-shape_turn fs rs k f x h i s =
-    let both : FieldsHaveShape (field (get_or fs k f).0 (group_of (get_or fs k f).1) (groups_from (map named (drop (k + 1) fs)))) (recs (rec_of (get_or rs k x)) (recs_from (map rec_of (drop (k + 1) rs)))) =
-    subst (λ (gs : Groups). FieldsHaveShape gs (recs (rec_of (get_or rs k x)) (recs_from (map rec_of (drop (k + 1) rs))))) (fields_at fs k f f h)
-    (subst (λ (xs : Recs). FieldsHaveShape (groups_from (map named (drop k fs))) xs) (recs_at rs k x i) s) in
-    both.1
-
--- no leaf of the node is read
-pub unread_node : (n : Group) (mask : ℕ → Bool) (k : ℕ) (x : Rec) (r : Reading) → IsReading mask n k r → (out-Reading r).value ≡ false → (out-Reading r).typed ≡ false → false ≡ has_value mask n k x
-unread_node (group s t) mask k (rec v p) r h e f =
-    sym (neither (is_some v && is_any_read mask k (slot_width s)) (part_has_value mask t (k + slot_width s) p)
-    (not_there (is_some v) (is_any_read mask k (slot_width s)) (sym h.0.value ∙ e)) (none_in_part t mask (k + slot_width s) p (sym h.0.typed ∙ f)))
