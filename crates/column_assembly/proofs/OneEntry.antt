@@ -1,14 +1,15 @@
 -- Items of one entry, and rows that are whole.
-use Rattle.std.proofs.Common.{◌≡◌, IfSome, refl, ap, sym, ◌∙◌, ℤ, ℕ, ◌+◌, nat_lt, Bool, true, false, ◌&&◌, cond, Option, Some, None, is_some, List, [], ◌∷◌, ◌-◌, ◌<◌, length, length-drop, drop, drop-drop, slice_set, arith}
+use Rattle.std.proofs.Common.{◌≡◌, IfSome, refl, ap, sym, ◌∙◌, ℤ, ℕ, ◌+◌, nat_lt, Bool, true, false, cond, Option, Some, None, is_some, List, [], ◌∷◌, ◌≤◌, length, drop, drop-drop, slice_set, arith}
 use Rattle.std.proofs.lemmas.List.{drop-set-lt}
+use Rattle.std.specs.Option.{option_map}
 use Rattle.vs_bytes.specs.declared.leaf_columns.Cell.{Cell}
-use Rattle.vs_bytes.specs.declared.leaf_columns.Cell.TheVariants.{Num}
+use Rattle.vs_bytes.specs.declared.leaf_columns.Cell.TheVariants as leaf_cell
 use Rattle.vs_bytes.specs.declared.leaf_columns.Entry.{Entry}
 use Rattle.vs_bytes.specs.declared.leaf_columns.PrimKind.{PrimKind}
 use Rattle.shred_schema.specs.Cells.{is_of_prim}
 use Rattle.record_assembly.specs.Cuts.{until, beyond, first_item, later_items}
 use Rattle.record_assembly.specs.Reading.{is_null, only_cell}
-use Rattle.column_assembly.specs.Items.{is_one, cell_of, has_suited, HasNumber}
+use Rattle.column_assembly.specs.Items.{is_one, cell_of, first_value, number_in, is_no_value}
 
 -- where nothing goes on the item, the entry after it begins the next one
 stops : (m : ℕ) (es : List Entry) → until m es ≡ [] → beyond m es ≡ es
@@ -68,22 +69,9 @@ taken_passed r d m at es left now x is same h = drop-set-lt (at + 1) es at x (om
 
 -- ---- a cell of a kind
 
--- the two tests together say whether there is such a cell
-pub suited_is : (q : PrimKind) (r d m : ℕ) (es : List Entry) → (is_one r d (first_item m es) && has_suited q es) ≡ is_some (cell_of q (only_cell r d (first_item m es)))
-suited_is q r d m [] = refl
-suited_is q r d m (e ∷ es) = by (is_one r d (first_item m (e ∷ es))) refl
-  where
-    of_value : (o : Option Cell) → has_suited q (record e { value = o } ∷ es) ≡ is_some (cell_of q o)
-    of_value None = refl
-    of_value (Some c) = chosen (is_of_prim q c)
-      where
-        chosen : (b : Bool) → b ≡ is_some (cond b (Some c) None)
-        chosen true = refl
-        chosen false = refl
-
-    by : (b : Bool) → is_one r d (first_item m (e ∷ es)) ≡ b → (is_one r d (first_item m (e ∷ es)) && has_suited q (e ∷ es)) ≡ is_some (cell_of q (only_cell r d (first_item m (e ∷ es))))
-    by true h = rw (h, one_cell r d m e es h) (of_value e.value)
-    by false h = rw (h, no_cell r d m (e ∷ es) h) refl
+pub one_value : (r d m : ℕ) (es : List Entry) → is_one r d (first_item m es) ≡ true → only_cell r d (first_item m es) ≡ first_value es
+one_value r d m [] h = refl
+one_value r d m (e ∷ es) h = one_cell r d m e es h
 
 -- what is taken is such a cell where there is one
 pub suited : (q : PrimKind) (o : Option Cell) → is_some (cell_of q o) ≡ true → o ≡ cell_of q o
@@ -101,24 +89,33 @@ not_suited q o h = none (cell_of q o) h
     none None h = refl
     none (Some c) h = cc
 
--- the number that is there is the cell that is taken
-pub number_is : (q : PrimKind) (r d m : ℕ) (n : ℤ) (es : List Entry) → is_one r d (first_item m es) ≡ true → HasNumber q n es → cell_of q (only_cell r d (first_item m es)) ≡ Some (Num n)
-number_is q r d m n [] one h = absurd h
-number_is q r d m n (e ∷ es) one h = rw (one_cell r d m e es one, h.0, h.1) refl
+-- a number that is taken
+pub number_back : (n : ℤ) (o : Option Cell) → Some n ≡ number_in o → o ≡ Some (leaf_cell.Num n)
+number_back n None h = cc
+number_back n (Some (leaf_cell.Bool b)) h = cc
+number_back n (Some (leaf_cell.Num x)) h = let same : n ≡ x = cc in ap (λ (y : ℤ). Some (leaf_cell.Num y)) (sym same)
+number_back n (Some (leaf_cell.Bytes bytes)) h = cc
 
-pub number_one : (q : PrimKind) (r d m : ℕ) (n : ℤ) (es : List Entry) → cell_of q (only_cell r d (first_item m es)) ≡ Some (Num n) → is_one r d (first_item m es) ≡ true
+number_one : (q : PrimKind) (r d m : ℕ) (n : ℤ) (es : List Entry) → Some n ≡ number_in (cell_of q (only_cell r d (first_item m es))) → is_one r d (first_item m es) ≡ true
 number_one q r d m n es h = by (is_one r d (first_item m es)) refl
   where
     by : (b : Bool) → is_one r d (first_item m es) ≡ b → b ≡ true
     by true one = refl
-    by false one = let no : None ≡ Some (Num n) = sym (ap (cell_of q) (no_cell r d m es one)) ∙ h in cc
+    by false one = let no : Some n ≡ None = h ∙ ap (λ o. number_in (cell_of q o)) (no_cell r d m es one) in cc
 
-pub number_there : (r d m at : ℕ) (es : List Entry) → is_one r d (first_item m (drop at es)) ≡ true → at < length es
-number_there r d m at es h = by (drop at es) (length-drop at es) h
-  where
-    by : (left : List Entry) → length left ≡ length es - at → is_one r d (first_item m left) ≡ true → at < length es
-    by [] size one = cc
-    by (e ∷ left) size one = omega (arith, size)
+pub number_there : (q : PrimKind) (r d m : ℕ) (n : ℤ) (es : List Entry) → Some n ≡ number_in (cell_of q (only_cell r d (first_item m es))) → 1 ≤ length es
+number_there q r d m n [] h = cc
+number_there q r d m n (e ∷ es) h = omega arith
 
-pub number_passed : (q : PrimKind) (r d m at : ℕ) (n : ℤ) (es now : List Entry) → drop at es ≡ now → cell_of q (only_cell r d (first_item m now)) ≡ Some (Num n) → drop (at + 1) es ≡ later_items m now
+pub number_passed : (q : PrimKind) (r d m at : ℕ) (n : ℤ) (es now : List Entry) → drop at es ≡ now → Some n ≡ number_in (cell_of q (only_cell r d (first_item m now))) → drop (at + 1) es ≡ later_items m now
 number_passed q r d m at n es now is h = one_passed r d m at es (ap (λ ys. is_one r d (first_item m ys)) is ∙ number_one q r d m n now h) ∙ ap (later_items m) is
+
+-- that there is no value
+pub no_value : (o : Option (Option (List ℕ))) → true ≡ is_no_value o → o ≡ Some None
+no_value None h = cc
+no_value (Some None) h = refl
+no_value (Some (Some bytes)) h = cc
+
+pub some_value : (o : Option (List ℕ)) → is_no_value (option_map Some o) ≡ false
+some_value None = refl
+some_value (Some bytes) = refl

@@ -1,7 +1,7 @@
 -- What is asked of the first item of a leaf's entries.
-use Rattle.std.specs.Prelude.{◌≡◌, true, ℕ, List, [], ◌∷◌, Bool, false, ◌&&◌, ◌||◌, not, cond, Option, Some, None, ℤ}
+use Rattle.std.specs.Prelude.{ℕ, List, [], ◌∷◌, Bool, true, false, ◌&&◌, ◌||◌, not, cond, Option, Some, None, ℤ}
 use Rattle.vs_bytes.specs.declared.leaf_columns.Cell.{Cell}
-use Rattle.vs_bytes.specs.declared.leaf_columns.Cell.TheVariants.{Num}
+use Rattle.vs_bytes.specs.declared.leaf_columns.Cell.TheVariants as leaf_cell
 use Rattle.vs_bytes.specs.declared.leaf_columns.PrimKind.{PrimKind}
 use Rattle.shred_schema.specs.Cells.{is_of_prim}
 use Rattle.vs_bytes.specs.declared.leaf_columns.Entry.{Entry}
@@ -23,16 +23,20 @@ abbrev pub cell_of : PrimKind → Option Cell → Option Cell
 cell_of q None = None
 cell_of q (Some c) = cond (is_of_prim q c) (Some c) None
 
--- the first entry has a value of the kind
-abbrev pub has_suited : PrimKind → List Entry → Bool
-has_suited q [] = false
-has_suited q (e ∷ es) = is_suited e.value
-  where
-    is_suited : Option Cell → Bool
-    is_suited None = false
-    is_suited (Some c) = is_of_prim q c
+-- its number, where it is one
+abbrev pub number_in : Option Cell → Option ℤ
+number_in None = None
+number_in (Some (leaf_cell.Bool b)) = None
+number_in (Some (leaf_cell.Num n)) = Some n
+number_in (Some (leaf_cell.Bytes bytes)) = None
 
--- the first entry has a number of the kind, this one
-abbrev pub HasNumber : PrimKind → ℤ → List Entry → Type 0
-HasNumber q n [] = ⊥
-HasNumber q n (e ∷ es) = (e.value ≡ Some (Num n)) × (is_of_prim q (Num n) ≡ true)
+-- the value of the first entry
+abbrev pub first_value : List Entry → Option Cell
+first_value [] = None
+first_value (e ∷ es) = e.value
+
+-- what is read of a slot is that there is no value
+abbrev pub is_no_value : Option (Option (List ℕ)) → Bool
+is_no_value None = false
+is_no_value (Some None) = true
+is_no_value (Some (Some bytes)) = false

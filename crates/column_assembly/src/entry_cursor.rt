@@ -1,10 +1,9 @@
 //! The entries that are left in a leaf.
 
-ghost use Rattle.std.specs.Prelude.{◌≡◌, ◌++◌, [], not, true, false, ◌≤◌, Some, length, drop, is_some, IfSome, IfNone, OnOk, OnErr};
+ghost use Rattle.std.specs.Prelude.{◌≡◌, ◌++◌, [], not, true, false, ◌≤◌, length, drop, is_some, IfSome, IfNone, OnOk, OnErr};
 ghost use Rattle.record_assembly.specs.Cuts.{until, first_item, later_items, is_nil};
 ghost use Rattle.record_assembly.specs.Reading.{is_null, only_cell};
-ghost use Rattle.vs_bytes.specs.declared.leaf_columns.Cell.TheVariants as leaf_cell;
-ghost use Rattle.column_assembly.specs.Items.{is_whole, cell_of};
+ghost use Rattle.column_assembly.specs.Items.{is_whole, cell_of, number_in};
 
 use crate::items;
 use std::alloc::Global;
@@ -119,7 +118,7 @@ impl Cursor {
     #[inline(always)]
     #[tactic(auto, using(crate::proofs::OneEntry::number_passed))]
     pub fn take_number(&mut self, prim: Prim, lists: u16, rep: u16, def: u16) -> Option<i128>
-        ensures number { IfSome result (λ n. cell_of prim (only_cell rep def (first_item lists self.old)) ≡ Some (leaf_cell.Num n)) }
+        ensures number { result ≡ number_in (cell_of prim (only_cell rep def (first_item lists self.old))) }
         ensures next { IfSome result (λ n. self.new ≡ later_items lists self.old) }
         ensures kept { IfNone result (self.new ≡ self.old) }
     {
@@ -130,9 +129,9 @@ impl Cursor {
 
     // The number of the first item, where that is one entry with these levels and a number of the kind.
     #[inline(always)]
-    #[tactic(auto, using(crate::proofs::OneEntry::number_is, crate::proofs::OneEntry::number_there))]
+    #[tactic(auto, using(crate::proofs::OneEntry::one_value, crate::proofs::OneEntry::no_cell, crate::proofs::OneEntry::number_there))]
     fn number(&self, prim: Prim, lists: u16, rep: u16, def: u16) -> Option<i128>
-        ensures number { IfSome result (λ n. cell_of prim (only_cell rep def (first_item lists self.now)) ≡ Some (leaf_cell.Num n)) }
+        ensures number { result ≡ number_in (cell_of prim (only_cell rep def (first_item lists self.now))) }
         ensures there { IfSome result (λ n. 1 ≤ length self.now) }
     {
         let left = self.left();
@@ -144,7 +143,7 @@ impl Cursor {
     }
 
     // Whether the first item is one entry with these levels and a value of the kind.
-    #[tactic(auto, using(crate::proofs::OneEntry::suited_is))]
+    #[tactic(auto, using(crate::proofs::OneEntry::one_value, crate::proofs::OneEntry::no_cell))]
     fn is_suited(&self, prim: Prim, lists: u16, rep: u16, def: u16) -> bool
         ensures { result ≡ is_some (cell_of prim (only_cell rep def (first_item lists self.now))) }
     {

@@ -1,9 +1,9 @@
 //! The first item of some entries: an entry, and those after it whose repetition level is above that of the list.
 
-ghost use Rattle.std.specs.Prelude.{◌≡◌, not, IfSome};
+ghost use Rattle.std.specs.Prelude.{◌≡◌, not, is_some};
 ghost use Rattle.record_assembly.specs.Cuts.{first_item, until, later_items, beyond, is_nil};
 ghost use Rattle.record_assembly.specs.Reading.{is_null, has_levels};
-ghost use Rattle.column_assembly.specs.Items.{is_one, has_suited, HasNumber};
+ghost use Rattle.column_assembly.specs.Items.{is_one, cell_of, first_value, number_in};
 
 use crate::cell_kind::{number_suits, suits};
 use vs_bytes::{Cell, Entry, Prim};
@@ -34,7 +34,7 @@ pub(crate) fn is_null(entries: &[Entry], lists: u16, rep: u16, def: u16) -> bool
 
 /// Whether the first of these entries has a value of the kind.
 pub(crate) fn has_suited(entries: &[Entry], prim: Prim) -> bool
-    ensures { result ≡ has_suited prim entries.now }
+    ensures { result ≡ is_some (cell_of prim (first_value entries.now)) }
 {
     match entries.first() {
         None => false,
@@ -48,7 +48,7 @@ pub(crate) fn has_suited(entries: &[Entry], prim: Prim) -> bool
 /// The number that the first of these entries has for its value, where it is one of the kind.
 #[inline(always)]
 pub(crate) fn first_number(entries: &[Entry], prim: Prim) -> Option<i128>
-    ensures { IfSome result (λ n. HasNumber prim n entries.now) }
+    ensures { result ≡ number_in (cell_of prim (first_value entries.now)) }
 {
     match entries.first() {
         None => None,

@@ -1,11 +1,10 @@
 //! Values of one leaf.
 
-ghost use Rattle.std.specs.Prelude.{◌≡◌, ◌+◌, ◌^◌, ◌<◌, ◌≤◌, true, false, Some, None, length, IfSome, IfNone};
-ghost use Rattle.vs_bytes.specs.declared.leaf_columns.Cell.TheVariants as leaf_cell;
+ghost use Rattle.std.specs.Prelude.{◌≡◌, ◌+◌, ◌^◌, ◌<◌, ◌≤◌, true, false, length, IfSome, IfNone};
 ghost use Rattle.shred_schema.specs.Groups.{slot_width};
 ghost use Rattle.shred_schema.specs.Cells.{is_of_prim};
 ghost use Rattle.record_assembly.specs.Reading.{only_cell, bytes_read, value_read};
-ghost use Rattle.column_assembly.specs.Items.{cell_of};
+ghost use Rattle.column_assembly.specs.Items.{cell_of, number_in, is_no_value};
 ghost use Rattle.column_assembly.specs.Leaves.{heads, TakenAt, Passed};
 
 use crate::entry_cursor::Cursor;
@@ -67,7 +66,7 @@ pub fn take_number(
     def: u16,
 ) -> Option<i128>
     requires { leaf < length cursors.old }
-    ensures number { IfSome result (λ n. cell_of prim (only_cell rep def (heads lists cursors.old leaf)) ≡ Some (leaf_cell.Num n)) }
+    ensures number { result ≡ number_in (cell_of prim (only_cell rep def (heads lists cursors.old leaf))) }
     ensures passed { IfSome result (λ n. Passed cursors.old cursors.new leaf 1 lists) }
     ensures kept { IfNone result (cursors.new ≡ cursors.old) }
 {
@@ -75,10 +74,10 @@ pub fn take_number(
     cursor.take_number(prim, lists, rep, def)
 }
 
-/// Takes the null of a slot, if it has one: whether the slot has no leaf, or its leaf says that there is no value. Where
-/// it isn't so, nothing is taken.
+/// Takes what the leaf of a slot says, if the slot has one, where that is that there is no value, and says whether it
+/// was. Where it wasn't, nothing is taken.
 #[inline(always)]
-#[tactic(auto, using(crate::proofs::Passing::passed_none, crate::proofs::Passing::passed_one))]
+#[tactic(auto, using(crate::proofs::Passing::passed_none, crate::proofs::Passing::passed_one, crate::proofs::OneEntry::some_value))]
 pub fn take_no_value(
     cursors: &mut [Cursor],
     leaf: usize,
@@ -88,7 +87,7 @@ pub fn take_no_value(
     def: u16,
 ) -> bool
     requires inside { leaf + slot_width slot ≤ length cursors.old }
-    ensures none { result ≡ true → value_read slot true rep def (heads lists cursors.old leaf) ≡ Some None }
+    ensures none { result ≡ is_no_value (value_read slot true rep def (heads lists cursors.old leaf)) }
     ensures passed { result ≡ true → Passed cursors.old cursors.new leaf (slot_width slot) lists }
     ensures kept { result ≡ false → cursors.new ≡ cursors.old }
 {

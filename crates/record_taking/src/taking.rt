@@ -189,6 +189,7 @@ fn put_typed(
 /// Takes the number of a scalar. `None` where a node has another typed part, or no number is there: then nothing is
 /// taken.
 #[inline(always)]
+#[tactic(auto, using(column_assembly::proofs::OneEntry::number_back))]
 fn take_scalar_number(
     cursors: &mut [Cursor],
     leaf: usize,

@@ -12,6 +12,7 @@ use Rattle.shred_schema.proofs.Viewed.{fields_are, kind_is_list, node_is, rec_is
 use Rattle.level_striping.proofs.Walks.{part_is_items}
 use Rattle.record_assembly.specs.Reading.{are_nil, are_null, fields_read}
 use Rattle.column_assembly.specs.Leaves.{heads}
+use Rattle.column_assembly.proofs.OneEntry.{no_value}
 use Rattle.record_taking.specs.Parts.{is_bare, rests}
 use Rattle.record_taking.proofs.ItemTurns.{list_first, turn_some, turn_none, turn_end, turn_last, between_first, between_more, rests_nil, first_taken, item_taken, items_taken, items_missing, shrinks}
 use Rattle.record_taking.proofs.Joined.{passed_on, passed_end, passed_to, taken_whole}
@@ -169,9 +170,9 @@ put_valued-returns-clause-passed t c =
 
 pub put_record-returns-in-None-clause-puts : goal.put_record-returns-in-None-clause-puts
 put_record-returns-in-None-clause-puts t c =
-    put_rest c.args.node.now.value (kind_of c.args.node.now.typed) _ None c.args.leaf c.args.levels.rep c.args.levels.lists c.args.levels.def c.args.cursors.now c.take_no_value.new.cursors (node_is c.args.node.now) (c.take_no_value.ensures.none c.if-not-take_no_value.false) (c.take_no_value.ensures.passed c.if-not-take_no_value.false) _ _ _ _ c.reserve.ensures.items (rw (c.slot_width.ensures, c.in-None.ensures.kept) at c.put_typed.ensures.puts)
+    put_rest c.args.node.now.value (kind_of c.args.node.now.typed) _ None c.args.leaf c.args.levels.rep c.args.levels.lists c.args.levels.def c.args.cursors.now c.take_no_value.new.cursors (node_is c.args.node.now) (no_value _ (sym c.if-not-take_no_value.false ∙ c.take_no_value.ensures.none)) (c.take_no_value.ensures.passed c.if-not-take_no_value.false) _ _ _ _ c.reserve.ensures.items (rw (c.slot_width.ensures, c.in-None.ensures.kept) at c.put_typed.ensures.puts)
 
 pub put_record-returns-in-Some-clause-puts : goal.put_record-returns-in-Some-clause-puts
 put_record-returns-in-Some-clause-puts t c =
     let fits : SFits w128 c.in-Some.number = search rules in
-    put_one c.args.node.now.value (kind_of c.args.node.now.typed) _ None c.args.leaf c.args.levels.rep c.args.levels.lists c.args.levels.def c.args.cursors.now c.take_no_value.new.cursors (node_is c.args.node.now) (c.take_no_value.ensures.none c.if-not-take_no_value.false) (c.take_no_value.ensures.passed c.if-not-take_no_value.false) _ _ _ _ _ c.push_reserved.ensures.items c.reserve.ensures.items (rw (to_z-of_z fits) at c.number_record.ensures) (rw c.slot_width.ensures at c.in-Some.ensures.read)
+    put_one c.args.node.now.value (kind_of c.args.node.now.typed) _ None c.args.leaf c.args.levels.rep c.args.levels.lists c.args.levels.def c.args.cursors.now c.take_no_value.new.cursors (node_is c.args.node.now) (no_value _ (sym c.if-not-take_no_value.false ∙ c.take_no_value.ensures.none)) (c.take_no_value.ensures.passed c.if-not-take_no_value.false) _ _ _ _ _ c.push_reserved.ensures.items c.reserve.ensures.items (rw (to_z-of_z fits) at c.number_record.ensures) (rw c.slot_width.ensures at c.in-Some.ensures.read)
