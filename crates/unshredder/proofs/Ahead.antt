@@ -1,5 +1,5 @@
 -- What was seen, before more of it: the state of the loops over fields and items.
-use Rattle.std.proofs.Common.{◌≡◌, ℕ, ◌+◌, ◌≤◌, ◌<◌, ◌^◌, Bool, List, [], ◌∷◌, ◌++◌, append_assoc, drop, length, map, subst, Option, None, Result, Ok, Err, refl, sym, ◌∙◌, ap, arith}
+use Rattle.std.proofs.Common.{◌≡◌, ℕ, ◌+◌, ◌≤◌, Bool, List, [], ◌∷◌, ◌++◌, append_assoc, drop, length, map, subst, Option, None, Result, Ok, Err, refl, sym, ◌∙◌, ap, arith}
 use Rattle.std.proofs.lemmas.List.{append-nil}
 use Rattle.std.specs.Option.{option_map}
 use Rattle.json_tree.specs.Json.{Json, Parts, parts_of, items_of}
@@ -10,7 +10,7 @@ use Rattle.vs_bytes.specs.declared.refused.Refused.{Refused}
 use Rattle.vs_bytes.specs.declared.refused.Refused.TheVariants.{Fault, NoMemory}
 use Rattle.vs_bytes.specs.Outcome.{◌>>=◌}
 use Rattle.vs_bytes.specs.declared.rule.Rule.{Rule}
-use Rattle.shred_schema.specs.Groups.{Group, Groups, no_groups, field, width, groups_width, groups_nesting}
+use Rattle.shred_schema.specs.Groups.{Group, Groups, no_groups, field, width, groups_nesting}
 use Rattle.shred_schema.specs.Lawful.{EachField, HasEither, MayHold}
 use Rattle.shred_schema.specs.Recs.{Rec, Recs, no_recs, recs}
 use Rattle.shred_schema.specs.Shapes.{FieldsHaveShape}
@@ -28,7 +28,6 @@ use Rattle.unshredder.specs.Seen.{seen, fields_seen, items_seen, ahead}
 pub record IsLeft (mask : ℕ → Bool) (names : List (List ℕ)) (above : ℕ) (done : List (List ℕ × Json)) (most : ℕ) (whole : Result (List (List ℕ × Json)) Rule) (first : ℕ) (gs : Groups) (xs : Recs) : Type 0 where
   pub nodes : EachField HasEither MayHold gs
   pub shape : FieldsHaveShape gs xs
-  pub leaves : first + groups_width gs < 2 ^ 32
   pub inside : groups_nesting gs ≤ most
   pub seen : ahead done (fields_seen mask names gs first above xs) ≡ whole
 
@@ -45,7 +44,6 @@ pub turned : (mask : ℕ → Bool) (names : List (List ℕ)) (above : ℕ) (firs
 turned mask names above first name n gs x xs done most whole found left e = record {
   nodes = left.nodes.1;
   shape = left.shape.1;
-  leaves = omega (arith, left.leaves);
   inside = omega (arith, left.inside);
   seen = joined done (member name found) (fields_seen mask names gs (first + width n) above xs)
       ∙ sym (ap (λ (r : Result (Option Json) Rule). ahead done (r >>= λ o. fields_seen mask names gs (first + width n) above xs >>= λ members. Ok (member name o ++ members))) e)

@@ -25,9 +25,6 @@ part_fields found part records held e f g = ap (λ (o : Option Part). part_or_em
 pub list_shape : (t : Kind) (p : RecPart) (n : Group) (xs : Recs) → t ≡ list_of n → p ≡ items xs → PartHasShape t p → EachRec (HasShape n) xs
 list_shape t p n xs e f h = subst (λ (k : Kind). PartHasShape k (items xs)) e (subst (PartHasShape t) f h)
 
-pub list_leaves : (t : Kind) (n : Group) (leaf : ℕ) → t ≡ list_of n → leaf + kind_width t < 2 ^ 32 → leaf + width n < 2 ^ 32
-list_leaves t n leaf e h = subst (λ (k : Kind). leaf + kind_width k < 2 ^ 32) e h
-
 pub list_nodes : (t : Kind) (n : Group) → t ≡ list_of n → EachIn HasEither MayHold t → AreNodes n
 list_nodes t n e h = subst (EachIn HasEither MayHold) e h
 
@@ -41,9 +38,6 @@ object_nodes t gs e h = subst (EachIn HasEither MayHold) e h
 
 pub object_shape : (t : Kind) (p : RecPart) (gs : Groups) (xs : Recs) → t ≡ object_of gs → p ≡ fields xs → PartHasShape t p → FieldsHaveShape gs xs
 object_shape t p gs xs e f h = subst (λ (k : Kind). PartHasShape k (fields xs)) e (subst (PartHasShape t) f h)
-
-pub object_leaves : (t : Kind) (gs : Groups) (leaf : ℕ) → t ≡ object_of gs → leaf + kind_width t < 2 ^ 32 → leaf + groups_width gs < 2 ^ 32
-object_leaves t gs leaf e h = subst (λ (k : Kind). leaf + kind_width k < 2 ^ 32) e h
 
 pub object_deep : (t : Kind) (gs : Groups) (above : ℕ) → t ≡ object_of gs → above + kind_nesting t ≤ max_nesting → above + groups_nesting gs + 1 ≤ max_nesting
 object_deep t gs above e h = omega (arith, ap kind_nesting e, h)

@@ -45,3 +45,9 @@ abbrev mutual
 -- the reading of the field at `i`
 abbrev pub IsFieldReading : (ℕ → Bool) → Group → ℕ → ℕ → Reading → Type 0
 IsFieldReading mask n i k r = ((out-Reading r).place ≡ i) × IsReading mask n k r
+
+-- this holds under some mask, where the leaves begin at some leaf
+pub record UnderSome (P : (ℕ → Bool) → ℕ → Type 0) : Type 0 where
+  pub mask : ℕ → Bool
+  pub leaf : ℕ
+  pub holds : P mask leaf

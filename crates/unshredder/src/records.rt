@@ -1,6 +1,6 @@
 //! Records, node by node.
 
-ghost use Rattle.std.specs.Prelude.{◌≡◌, ◌+◌, ◌≤◌, ◌<◌, ◌^◌, ◌++◌, length, map};
+ghost use Rattle.std.specs.Prelude.{◌≡◌, ℕ, ◌+◌, ◌≤◌, Bool, map};
 ghost use Rattle.std.specs.Option.{option_map};
 ghost use Rattle.json_tree.specs.Json.{items_of};
 ghost use Rattle.json_tree.specs.View.{view, seen as pair_seen};
@@ -8,57 +8,50 @@ ghost use Rattle.vs_bytes.specs.Outcome.{Makes};
 ghost use Rattle.variant_meta.specs.MetaRefs.{names_of};
 ghost use Rattle.variant_read.specs.Meaning.{max_nesting};
 ghost use Rattle.variant_read.specs.View.{json_of};
-ghost use Rattle.shred_schema.specs.Groups.{width, kind_width, groups_width, nesting, kind_nesting, groups_nesting, groups_from};
+ghost use Rattle.shred_schema.specs.Groups.{nesting, kind_nesting, groups_nesting, groups_from};
 ghost use Rattle.shred_schema.specs.Lawful.{AreNodes, IsObject, EachIn, EachField, HasEither, MayHold};
-ghost use Rattle.shred_schema.specs.Ranges.{reads};
 ghost use Rattle.shred_schema.specs.Recs.{recs_from, EachRec};
 ghost use Rattle.shred_schema.specs.Shapes.{HasShape, PartHasShape, FieldsHaveShape};
 ghost use Rattle.shred_schema.specs.Views.{group_of, kind_of, rec_of, part_of, part_or_empty, named};
 ghost use Rattle.unshredder.specs.Merging.{with_fields, with_items};
-ghost use Rattle.unshredder.specs.Readings.{IsReading, AreInside, AreReadings};
+ghost use Rattle.unshredder.specs.Readings.{IsReading, AreInside, AreReadings, UnderSome};
 ghost use Rattle.unshredder.specs.Seen.{seen, typed_seen, fields_seen, items_seen, is_tested, ahead};
 
 use crate::merging::{left_over, put_member, value_seen, whole, with_cell, without_fields};
 use crate::places::members_of;
 use crate::readings::Reading;
 use json_tree::{Items, Tree};
-use shred_schema::{Node, Part, Record, Typed, slot_width};
+use shred_schema::{Node, Part, Record, Typed};
 use std::alloc::Global;
 use variant_meta::MetaRef;
 use variant_read::ValueRef;
 use vs_bytes::{Refusal, Rule, Text};
 
-/// What a record means, or the first rule that it violates. The leaves of its node begin at `leaf`, and the node
-/// stands inside `above` objects and lists. `None` where nothing is there.
+/// What a record means under each mask of which the reading is one, or the first rule that it violates. Its node stands
+/// inside `above` objects and lists. `None` where nothing is there.
 #[cycle(seen)]
 pub(crate) fn seen(
     alloc: Global,
-    mask: &[bool],
     reading: &Reading,
     meta: &MetaRef,
     node: &Node,
-    leaf: usize,
     above: u8,
     rec: &Record,
 ) -> Result<Option<Tree>, Refusal>
     requires nodes { AreNodes (group_of node.now) }
     requires shape { HasShape (group_of node.now) (rec_of rec.now) }
-    requires leaves { leaf + width (group_of node.now) < 2 ^ 32 }
-    requires reading { IsReading (reads mask.now) (group_of node.now) leaf reading.now }
+    requires reading { UnderSome (λ mask leaf. IsReading mask (group_of node.now) leaf reading.now) }
     requires deep { above + nesting (group_of node.now) ≤ max_nesting }
-    ensures { Makes (option_map view) result (seen (reads mask.now) (names_of meta.now) (group_of node.now) leaf above (rec_of rec.now)) }
+    ensures { (mask : ℕ → Bool) (leaf : ℕ) → IsReading mask (group_of node.now) leaf reading.now → Makes (option_map view) result (seen mask (names_of meta.now) (group_of node.now) leaf above (rec_of rec.now)) }
 {
-    let first = slot_width(node.value);
     let value = value_seen(*meta, above, reading.value, &rec.value)?;
     if reading.typed {
         typed_seen(
             alloc,
-            mask,
             reading.inside.as_slice(),
             reading.moves.as_slice(),
             meta,
             &node.typed,
-            leaf + first,
             above,
             value,
             &rec.typed,
@@ -72,22 +65,19 @@ pub(crate) fn seen(
 #[cycle(seen)]
 fn typed_seen(
     alloc: Global,
-    mask: &[bool],
     inside: &[Reading],
     moves: &[(usize, usize)],
     meta: &MetaRef,
     typed: &Typed,
-    leaf: usize,
     above: u8,
     value: Option<ValueRef>,
     part: &Option<Part>,
 ) -> Result<Option<Tree>, Refusal>
     requires nodes { EachIn HasEither MayHold (kind_of typed.now) }
     requires shape { PartHasShape (kind_of typed.now) (part_or_empty (option_map part_of part.now)) }
-    requires leaves { leaf + kind_width (kind_of typed.now) < 2 ^ 32 }
-    requires readings { AreInside (reads mask.now) (kind_of typed.now) leaf inside.now }
+    requires readings { UnderSome (λ mask leaf. AreInside mask (kind_of typed.now) leaf inside.now) }
     requires deep { above + kind_nesting (kind_of typed.now) ≤ max_nesting }
-    ensures { Makes (option_map view) result (typed_seen (reads mask.now) (names_of meta.now) (kind_of typed.now) leaf above (option_map json_of value.entry) (part_or_empty (option_map part_of part.now))) }
+    ensures { (mask : ℕ → Bool) (leaf : ℕ) → AreInside mask (kind_of typed.now) leaf inside.now → Makes (option_map view) result (typed_seen mask (names_of meta.now) (kind_of typed.now) leaf above (option_map json_of value.entry) (part_or_empty (option_map part_of part.now))) }
 {
     match typed {
         Typed::Free => Ok(whole(alloc, value)?),
@@ -102,12 +92,10 @@ fn typed_seen(
             Some(part) => match part {
                 Part::Fields(records) => with_fields(
                     alloc,
-                    mask,
                     inside,
                     moves,
                     meta,
                     fields.as_slice(),
-                    leaf,
                     above,
                     value,
                     records.as_slice(),
@@ -120,11 +108,9 @@ fn typed_seen(
             Some(part) => match part {
                 Part::Items(records) => with_items(
                     alloc,
-                    mask,
                     &inside[0],
                     meta,
                     node.get(),
-                    leaf,
                     above,
                     value,
                     records.as_slice(),
@@ -138,15 +124,12 @@ fn typed_seen(
 
 // An object, of whose fields each has a record. Its value may have further members.
 #[cycle(seen)]
-#[tactic(auto, using(crate::proofs::Apart::not_repeated))]
 fn with_fields(
     alloc: Global,
-    mask: &[bool],
     readings: &[Reading],
     moves: &[(usize, usize)],
     meta: &MetaRef,
     fields: &[(Text, Node)],
-    leaf: usize,
     above: u8,
     value: Option<ValueRef>,
     records: &[Record],
@@ -154,23 +137,12 @@ fn with_fields(
     requires object { IsObject (groups_from (map named fields.now)) }
     requires nodes { EachField HasEither MayHold (groups_from (map named fields.now)) }
     requires shape { FieldsHaveShape (groups_from (map named fields.now)) (recs_from (map rec_of records.now)) }
-    requires leaves { leaf + groups_width (groups_from (map named fields.now)) < 2 ^ 32 }
-    requires readings { AreReadings (reads mask.now) (groups_from (map named fields.now)) 0 leaf readings.now }
+    requires readings { UnderSome (λ mask leaf. AreReadings mask (groups_from (map named fields.now)) 0 leaf readings.now) }
     requires deep { above + groups_nesting (groups_from (map named fields.now)) + 1 ≤ max_nesting }
-    ensures { Makes (option_map view) result (with_fields (groups_from (map named fields.now)) (option_map json_of value.entry) (fields_seen (reads mask.now) (names_of meta.now) (groups_from (map named fields.now)) leaf (above + 1) (recs_from (map rec_of records.now)))) }
+    ensures { (mask : ℕ → Bool) (leaf : ℕ) → AreReadings mask (groups_from (map named fields.now)) 0 leaf readings.now → Makes (option_map view) result (with_fields (groups_from (map named fields.now)) (option_map json_of value.entry) (fields_seen mask (names_of meta.now) (groups_from (map named fields.now)) leaf (above + 1) (recs_from (map rec_of records.now)))) }
 {
     let left = left_over(alloc, fields, value)?;
-    let pairs = fields_seen(
-        alloc,
-        mask,
-        readings,
-        meta,
-        fields,
-        leaf,
-        above + 1,
-        left,
-        records,
-    )?;
+    let pairs = fields_seen(alloc, readings, meta, fields, above + 1, left, records)?;
     match members_of(pairs, moves) {
         Ok(members) => Ok(Some(Tree::Object(members))),
         Err(_) => unreachable!(),
@@ -181,36 +153,24 @@ fn with_fields(
 #[cycle(seen)]
 fn fields_seen(
     alloc: Global,
-    mask: &[bool],
     readings: &[Reading],
     meta: &MetaRef,
     fields: &[(Text, Node)],
-    leaf: usize,
     above: u8,
     left: Vec<(Text, Tree)>,
     records: &[Record],
 ) -> Result<Vec<(Text, Tree)>, Refusal>
     requires nodes { EachField HasEither MayHold (groups_from (map named fields.now)) }
     requires shape { FieldsHaveShape (groups_from (map named fields.now)) (recs_from (map rec_of records.now)) }
-    requires leaves { leaf + groups_width (groups_from (map named fields.now)) < 2 ^ 32 }
-    requires readings { AreReadings (reads mask.now) (groups_from (map named fields.now)) 0 leaf readings.now }
+    requires readings { UnderSome (λ mask leaf. AreReadings mask (groups_from (map named fields.now)) 0 leaf readings.now) }
     requires deep { above + groups_nesting (groups_from (map named fields.now)) ≤ max_nesting }
-    ensures { Makes (λ pairs. map pair_seen pairs.items) result (ahead (map pair_seen left.items) (fields_seen (reads mask.now) (names_of meta.now) (groups_from (map named fields.now)) leaf above (recs_from (map rec_of records.now)))) }
+    ensures { (mask : ℕ → Bool) (leaf : ℕ) → AreReadings mask (groups_from (map named fields.now)) 0 leaf readings.now → Makes (λ pairs. map pair_seen pairs.items) result (ahead (map pair_seen left.items) (fields_seen mask (names_of meta.now) (groups_from (map named fields.now)) leaf above (recs_from (map rec_of records.now)))) }
 {
     let mut left = left;
     for reading in readings {
         let k = reading.place;
         let node = &fields[k].1;
-        let found = match seen(
-            alloc,
-            mask,
-            reading,
-            meta,
-            node,
-            reading.leaf,
-            above,
-            &records[k],
-        ) {
+        let found = match seen(alloc, reading, meta, node, above, &records[k]) {
             Ok(found) => found,
             Err(refused) => return Err(refused),
         };
@@ -224,34 +184,22 @@ fn fields_seen(
 #[tactic(auto, using(crate::proofs::Members::parts_back))]
 fn with_items(
     alloc: Global,
-    mask: &[bool],
     reading: &Reading,
     meta: &MetaRef,
     node: &Node,
-    leaf: usize,
     above: u8,
     value: Option<ValueRef>,
     records: &[Record],
 ) -> Result<Option<Tree>, Refusal>
     requires nodes { AreNodes (group_of node.now) }
     requires shape { EachRec (HasShape (group_of node.now)) (recs_from (map rec_of records.now)) }
-    requires leaves { leaf + width (group_of node.now) < 2 ^ 32 }
-    requires reading { IsReading (reads mask.now) (group_of node.now) leaf reading.now }
+    requires reading { UnderSome (λ mask leaf. IsReading mask (group_of node.now) leaf reading.now) }
     requires deep { above + nesting (group_of node.now) + 1 ≤ max_nesting }
-    ensures { Makes (option_map view) result (with_items (option_map json_of value.entry) (items_seen (is_tested (reads mask.now) leaf (group_of node.now)) (seen (reads mask.now) (names_of meta.now) (group_of node.now) leaf (above + 1)) (recs_from (map rec_of records.now)))) }
+    ensures { (mask : ℕ → Bool) (leaf : ℕ) → IsReading mask (group_of node.now) leaf reading.now → Makes (option_map view) result (with_items (option_map json_of value.entry) (items_seen (is_tested mask leaf (group_of node.now)) (seen mask (names_of meta.now) (group_of node.now) leaf (above + 1)) (recs_from (map rec_of records.now)))) }
 {
     match value {
         Some(_) => Err(Refusal::Fault(Rule::BothPresent)),
-        None => Ok(Some(Tree::Array(items_seen(
-            alloc,
-            mask,
-            reading,
-            meta,
-            node,
-            leaf,
-            above + 1,
-            records,
-        )?))),
+        None => Ok(Some(Tree::Array(items_seen(alloc, reading, meta, node, above + 1, records)?))),
     }
 }
 
@@ -260,24 +208,21 @@ fn with_items(
 #[tactic(auto, using(crate::proofs::Members::items_back, crate::proofs::Ahead::element_turn, crate::proofs::Ahead::elements_end))]
 fn items_seen(
     alloc: Global,
-    mask: &[bool],
     reading: &Reading,
     meta: &MetaRef,
     node: &Node,
-    leaf: usize,
     above: u8,
     records: &[Record],
 ) -> Result<Items, Refusal>
     requires nodes { AreNodes (group_of node.now) }
     requires shape { EachRec (HasShape (group_of node.now)) (recs_from (map rec_of records.now)) }
-    requires leaves { leaf + width (group_of node.now) < 2 ^ 32 }
-    requires reading { IsReading (reads mask.now) (group_of node.now) leaf reading.now }
+    requires reading { UnderSome (λ mask leaf. IsReading mask (group_of node.now) leaf reading.now) }
     requires deep { above + nesting (group_of node.now) ≤ max_nesting }
-    ensures { Makes items_of result (items_seen (is_tested (reads mask.now) leaf (group_of node.now)) (seen (reads mask.now) (names_of meta.now) (group_of node.now) leaf above) (recs_from (map rec_of records.now))) }
+    ensures { (mask : ℕ → Bool) (leaf : ℕ) → IsReading mask (group_of node.now) leaf reading.now → Makes items_of result (items_seen (is_tested mask leaf (group_of node.now)) (seen mask (names_of meta.now) (group_of node.now) leaf above) (recs_from (map rec_of records.now))) }
 {
     let mut trees = Vec::with_capacity(alloc, records.len())?;
     for rec in records {
-        match seen(alloc, mask, reading, meta, node, leaf, above, rec)? {
+        match seen(alloc, reading, meta, node, above, rec)? {
             Some(tree) => trees.push(tree)?,
             None => {
                 if reading.tested {

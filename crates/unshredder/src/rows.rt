@@ -61,18 +61,9 @@ impl Reading {
         match row {
             RowRecord::Absent => Ok(None),
             RowRecord::Present { meta, rec } => {
-                let needed = has_value(mask.as_slice(), self, &column.node, 1, rec);
+                let needed = has_value(self, &column.node, rec);
                 let names = names_needed(needed, meta.as_slice())?;
-                match seen(
-                    alloc,
-                    mask.as_slice(),
-                    self,
-                    &names,
-                    &column.node,
-                    1,
-                    0,
-                    rec,
-                )? {
+                match seen(alloc, self, &names, &column.node, 0, rec)? {
                     Some(tree) => Ok(Some(tree)),
                     None => Ok(Some(Tree::Null)),
                 }
