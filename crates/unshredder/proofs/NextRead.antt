@@ -9,7 +9,6 @@ use Rattle.shred_schema.specs.declared.nodes.Node.{Node}
 use Rattle.shred_schema.specs.declared.records.Record.{Record}
 use Rattle.unshredder.specs.Readings.{IsReading, AreReadings, Begins, IsFieldReading}
 use Rattle.unshredder.specs.declared.readings.Reading.{Reading, out-Reading}
-use Rattle.unshredder.proofs.NodesRead.{leaf_is}
 
 -- What a walk knows of the fields that are left and of their records, `Left`: each of them has a record, and it still
 -- holds after a field of which no leaf is read.
@@ -24,18 +23,19 @@ pub record AreAhead (mask : ℕ → Bool) (Left : ℕ → Groups → Recs → Ty
   pub left : Left first (groups_from (map named (drop place fs))) (recs_from (map rec_of (drop place xs)))
   pub readings : AreReadings mask (groups_from (map named (drop place fs))) place first rs
 
--- the next field that is read is at `i`, and its leaves begin at `k`; `later` are the readings after its own
-pub record IsNext (mask : ℕ → Bool) (Left : ℕ → Groups → Recs → Type 0) (fs : List (List ℕ × Node)) (xs : List Record) (r : Reading) (later : List Reading) (i k : ℕ) : Type 0 where
+-- the next field that is read is at `i`, and its leaves begin at `first`; `later` are the readings after its own
+pub record IsNext (mask : ℕ → Bool) (Left : ℕ → Groups → Recs → Type 0) (fs : List (List ℕ × Node)) (xs : List Record) (r : Reading) (later : List Reading) (i : ℕ) : Type 0 where
+  pub first : ℕ
   pub is_field : i < length fs
   pub is_record : i < length xs
-  pub here : (f : List ℕ × Node) → IsReading mask (group_of (get_or fs i f).1) k r
-  pub left : (f g : List ℕ × Node) (x : Record) → x ≡ get_or xs i x → Left k (field (get_or fs i f).0 (group_of (get_or fs i g).1) (groups_from (map named (drop (i + 1) fs)))) (recs (rec_of x) (recs_from (map rec_of (drop (i + 1) xs))))
-  pub more : (f : List ℕ × Node) → AreReadings mask (groups_from (map named (drop (i + 1) fs))) (i + 1) (k + width (group_of (get_or fs i f).1)) later
+  pub here : (f : List ℕ × Node) → IsReading mask (group_of (get_or fs i f).1) first r
+  pub left : (f g : List ℕ × Node) (x : Record) → x ≡ get_or xs i x → Left first (field (get_or fs i f).0 (group_of (get_or fs i g).1) (groups_from (map named (drop (i + 1) fs)))) (recs (rec_of x) (recs_from (map rec_of (drop (i + 1) xs))))
+  pub more : (f : List ℕ × Node) → AreReadings mask (groups_from (map named (drop (i + 1) fs))) (i + 1) (first + width (group_of (get_or fs i f).1)) later
 
 -- the first reading that is left is that of the next field; without a reading no field is left
 abbrev Found : (ℕ → Bool) → (ℕ → Groups → Recs → Type 0) → List (List ℕ × Node) → List Record → List Reading → Type 0
 Found mask Left fs xs [] = (k : ℕ) × ((later : Recs) × Left k no_groups later)
-Found mask Left fs xs (r ∷ rs) = IsNext mask Left fs xs r rs (out-Reading r).place (out-Reading r).leaf
+Found mask Left fs xs (r ∷ rs) = IsNext mask Left fs xs r rs (out-Reading r).place
 
 -- what stands at an index
 
@@ -58,15 +58,15 @@ is_next : (mask : ℕ → Bool) (Left : ℕ → Groups → Recs → Type 0) (fs 
     → Begins true (IsFieldReading mask (group_of f.1) i k) (λ more. AreReadings mask (groups_from (map named gs)) (i + 1) (k + width (group_of f.1)) more) rs → Found mask Left fs xs rs
 is_next mask Left fs gs xs ys f x i k [] d e left h = absurd h
 is_next mask Left fs gs xs ys f x i k (r ∷ rs) d e left h =
-    let here : IsNext mask Left fs xs r rs i k = record {
+    let here : IsNext mask Left fs xs r rs i = record {
+      first = k;
       is_field = is_at fs i f gs d;
       is_record = is_at xs i x ys e;
       here = λ o. rw (at_is fs i f gs o d) h.0.1;
       left = λ o p y is. let same : y ≡ x = is ∙ at_is xs i x ys y e in rw (at_is fs i f gs o d, at_is fs i f gs p d, after_is fs i f gs d, after_is xs i x ys e, same) left;
       more = λ o. rw (at_is fs i f gs o d, after_is fs i f gs d) h.1;
     } in
-    subst (λ (j : ℕ). IsNext mask Left fs xs r rs j (out-Reading r).leaf) (sym h.0.0)
-    (subst (λ (j : ℕ). IsNext mask Left fs xs r rs i j) (sym (leaf_is mask (group_of f.1) k r h.0.1)) here)
+    subst (λ (j : ℕ). IsNext mask Left fs xs r rs j) (sym h.0.0) here
 
 abbrev FoundFrom : (ℕ → Bool) → (ℕ → Groups → Recs → Type 0) → List (List ℕ × Node) → List Record → List Reading → ℕ → ℕ → Type 0
 FoundFrom mask Left fs xs rs i k = Left k (groups_from (map named (drop i fs))) (recs_from (map rec_of (drop i xs))) → AreReadings mask (groups_from (map named (drop i fs))) i k rs → Found mask Left fs xs rs
@@ -95,7 +95,7 @@ found_from (suc turns) mask Left fs xs rs passes i k h left are = by (drop i fs)
 
 -- the next field that is read is that of the first reading that is left
 pub next_read : (mask : ℕ → Bool) (Left : ℕ → Groups → Recs → Type 0) (fs : List (List ℕ × Node)) (xs : List Record) (rs : List Reading) (j : ℕ) (r : Reading)
-    → Passes mask Left → AreAhead mask Left fs xs (drop j rs) → j < length rs → r ≡ get_or rs j r → IsNext mask Left fs xs r (drop (j + 1) rs) (out-Reading r).place (out-Reading r).leaf
+    → Passes mask Left → AreAhead mask Left fs xs (drop j rs) → j < length rs → r ≡ get_or rs j r → IsNext mask Left fs xs r (drop (j + 1) rs) (out-Reading r).place
 next_read mask Left fs xs rs j r passes ahead h e =
     let here : drop j rs ≡ r ∷ drop (j + 1) rs = drop_more rs j r h ∙ ap (λ (s : Reading). s ∷ drop (j + 1) rs) (sym e) in
     subst (λ (all : List Reading). Found mask Left fs xs all) here (found_from (length fs) mask Left fs xs (drop j rs) passes ahead.place ahead.first (omega arith) ahead.left ahead.readings)

@@ -1,16 +1,13 @@
 -- What a reading says of its node, and how readings of fields are made, field by field.
 use Rattle.std.proofs.Common.{◌≡◌, ◌∙◌, sym, ap, subst, refl, ℕ, ◌+◌, ◌<◌, ◌≤◌, Bool, true, false, List, [], ◌∷◌, ◌++◌, append_assoc, drop, get_or, length, map, arith}
 use Rattle.std.proofs.lemmas.List.{append-nil}
-use Rattle.shred_schema.specs.Groups.{Group, group, Kind, object_of, list_of, Groups, no_groups, field, width, groups_width, nesting, groups_nesting, groups_from}
+use Rattle.shred_schema.specs.Groups.{Group, Kind, object_of, list_of, Groups, no_groups, field, width, groups_width, nesting, groups_nesting, groups_from}
 use Rattle.shred_schema.specs.Ranges.{is_any_read}
 use Rattle.shred_schema.specs.Views.{group_of, named}
 use Rattle.shred_schema.specs.declared.nodes.Node.{Node}
 use Rattle.shred_schema.proofs.Viewed.{fields_at, fields_end}
 use Rattle.unshredder.specs.Readings.{IsReading, AreInside, AreReadings, Begins, IsPut, IsFieldReading}
-use Rattle.unshredder.specs.declared.readings.Reading.{Reading, out-Reading}
-
-pub leaf_is : (mask : ℕ → Bool) (n : Group) (k : ℕ) (r : Reading) → IsReading mask n k r → (out-Reading r).leaf ≡ k
-leaf_is mask (group s t) k r h = h.0.leaf
+use Rattle.unshredder.specs.declared.readings.Reading.{Reading}
 
 -- Made field by field: with readings of what is left, `inside` is those of all. The first field that is left is at `i`.
 pub record IsMade (mask : ℕ → Bool) (i : ℕ) (first : ℕ) (gs : Groups) (inside : List Reading) (whole : Groups) (leaf : ℕ) : Type 0 where

@@ -1,6 +1,6 @@
 -- The typed part of a list, and what of it its items inherit.
-use Rattle.std.proofs.Common.{rules, arith, ◌≤◌, ◌≡◌, ◌∙◌, sym, ap, subst, ℕ, ◌+◌, ◌<◌, ◌^◌, List, map, option_map, Option, Some}
-use Rattle.shred_schema.specs.Groups.{Group, Kind, object_of, list_of, Groups, width, kind_width, groups_width, nesting, kind_nesting, groups_nesting}
+use Rattle.std.proofs.Common.{rules, arith, ◌≤◌, ◌≡◌, ◌∙◌, sym, ap, subst, ℕ, ◌+◌, List, map, option_map, Option, Some}
+use Rattle.shred_schema.specs.Groups.{Group, Kind, object_of, list_of, Groups, nesting, kind_nesting, groups_nesting}
 use Rattle.shred_schema.specs.Recs.{RecPart, Recs, items, fields, recs_from, EachRec}
 use Rattle.shred_schema.specs.Lawful.{AreNodes, IsObject, EachIn, EachField, HasEither, MayHold}
 use Rattle.variant_read.specs.Meaning.{max_nesting}

@@ -8,7 +8,6 @@ use Rattle.unshredder.specs.declared.readings.Reading.{Reading, out-Reading}
 
 -- the reading says this of a node whose leaves begin at leaf `k`
 pub record IsRead (mask : ℕ → Bool) (s : Slot) (t : Kind) (k : ℕ) (r : Reading) : Type 0 where
-  pub leaf : (out-Reading r).leaf ≡ k
   pub value : (out-Reading r).value ≡ is_any_read mask k (slot_width s)
   pub typed : (out-Reading r).typed ≡ is_any_read mask (k + slot_width s) (kind_width t)
   pub tested : (out-Reading r).tested ≡ is_tested mask k (group s t)

@@ -14,14 +14,16 @@ use std::alloc::Global;
 use vs_bytes::{NoMemory, Text};
 
 /// Moves: each of two places, whose members change places.
+///
+/// What members come of pairs doesn't rest on their order, so nothing but time rests on the moves.
 pub(crate) type Moves = Items<(usize, usize)>;
 
-// Each of the fields that are read, counted from 0, in the order of their names.
-fn by_name(
+// The names of the fields that are read, in their order, each with its place among these fields.
+fn named_places<'a>(
     alloc: Global,
-    fields: &[(Text, Node)],
+    fields: &'a [(Text, Node)],
     readings: &[Reading],
-) -> Result<Vec<usize>, NoMemory> {
+) -> Result<Vec<(&'a Text, usize)>, NoMemory> {
     let mut named = Vec::with_capacity(alloc, readings.len())?;
     for k in 0..readings.len() {
         if let Some(field) = fields.get(readings[k].place) {
@@ -29,11 +31,7 @@ fn by_name(
         }
     }
     named.sort_unstable_by(|a, b| a.0.cmp(b.0));
-    let mut places = Vec::with_capacity(alloc, named.len())?;
-    for (_name, k) in &named {
-        places.push(*k)?;
-    }
-    Ok(places)
+    Ok(named)
 }
 
 fn place_at(places: &[usize], k: usize) -> usize {
@@ -64,12 +62,12 @@ pub(crate) fn moves_of(
     fields: &[(Text, Node)],
     readings: &[Reading],
 ) -> Result<Moves, NoMemory> {
-    let sorted = by_name(alloc, fields, readings)?;
-    let mut members_at = counted(alloc, sorted.len())?;
-    let mut places_of = counted(alloc, sorted.len())?;
+    let named = named_places(alloc, fields, readings)?;
+    let mut members_at = counted(alloc, named.len())?;
+    let mut places_of = counted(alloc, named.len())?;
     let mut moves = Items::new(alloc);
-    for k in 0..sorted.len() {
-        let from = place_at(places_of.as_slice(), sorted[k]);
+    for k in 0..named.len() {
+        let from = place_at(places_of.as_slice(), named[k].1);
         if from != k {
             moves.push((k, from))?;
             let other = place_at(members_at.as_slice(), k);
@@ -113,6 +111,7 @@ pub(crate) fn members_of(
     apply(&mut pairs, moves);
     match Members::from_pairs(pairs) {
         Ok(members) => {
+            // Its clause says that the members' names rise, so that pairs in either order make the same members.
             let _pairs = members.as_slice();
             Ok(members)
         }

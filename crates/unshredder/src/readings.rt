@@ -19,8 +19,6 @@ use vs_bytes::{NoMemory, Text};
 pub struct Reading {
     // Which field of its object the node is, counted from 0. An element, or the top, is at 0.
     pub(crate) place: usize,
-    // The first of its leaf columns.
-    pub(crate) leaf: usize,
     // Whether its value is read.
     pub(crate) value: bool,
     // Whether some leaf of its typed part is read.
@@ -51,7 +49,6 @@ pub(crate) fn reading_of(
     let moves = typed_moves(alloc, &node.typed, inside.as_slice())?;
     Ok(Reading {
         place,
-        leaf,
         value: is_any_read(mask, leaf, first),
         typed: is_any_read(mask, leaf + first, count),
         tested: is_tested(mask, leaf, node),

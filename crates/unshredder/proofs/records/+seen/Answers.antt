@@ -101,7 +101,7 @@ fields_seen-seen-requires t c =
     let some = c.requires.readings in
     let next = next_read _ _ c.args.fields.now c.args.records.now c.args.readings.now c.loop-reading.reading-index c.reading-item.result (passes_seen _ _ _ _ _ _) (c.loop-reading.invariant some.mask some.leaf some.holds) (omega (arith, c.loop-reading-test.true)) c.reading-item.is in
     let left = next.left c.index-fields-k.result c.index-fields-k.result c.index-records-k.result c.index-records-k.is in
-    (omega (arith, left.inside), (left.nodes.0, (left.shape.0, (record { mask = some.mask; leaf = _; holds = next.here c.index-fields-k.result }, omega (arith, left.inside, c.requires.deep)))))
+    (omega (arith, left.inside), (left.nodes.0, (left.shape.0, (record { mask = some.mask; leaf = next.first; holds = next.here c.index-fields-k.result }, omega (arith, left.inside, c.requires.deep)))))
 
 pub fields_seen-returns-in-Err : goal.fields_seen-returns-in-Err
 fields_seen-returns-in-Err t c =
