@@ -2,6 +2,7 @@ pub mod ChosenMembers
 pub mod ChosenSteps
 pub mod DictionaryNames
 pub mod Gathering
+pub mod Known
 pub mod Limits
 pub mod NameLimits
 pub mod NamesAmong

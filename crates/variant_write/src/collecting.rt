@@ -28,7 +28,7 @@ pub fn dictionary_of(alloc: Global, tree: &Tree) -> Result<Dictionary, NoMemory>
 }
 
 // The names of all objects in a value, each as often as it stands there.
-fn all_names(alloc: Global, tree: &Tree) -> Result<Vec<Text>, NoMemory>
+pub(crate) fn all_names(alloc: Global, tree: &Tree) -> Result<Vec<Text>, NoMemory>
     ensures { IfOk result (λ names. names.items ≡ object_names (view tree.now)) }
 {
     let mut names = Vec::with_capacity(alloc, ROOM)?;

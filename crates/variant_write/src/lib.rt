@@ -7,6 +7,7 @@
 //! | `composer` | `Composer`: objects and arrays of values that are there already, written |
 //! | `composing` | the same for widths that are known only at run time |
 //! | `collecting` | `dictionary_of`: the names of all objects in a value |
+//! | `known_names` | `KnownNames`: a dictionary that is kept for the next value |
 //! | `field_ids` | the ids of an object's fields |
 //! | `encoding` | `encode`: the bytes of a value |
 //! | `choosing` | `encode_members`: the bytes of some members of an object |
@@ -19,6 +20,7 @@ mod composer;
 mod composing;
 mod encoding;
 mod field_ids;
+mod known_names;
 mod laws;
 mod primitives;
 mod widths;
@@ -27,5 +29,6 @@ pub use choosing::encode_members;
 pub use collecting::dictionary_of;
 pub use composer::Composer;
 pub use encoding::encode;
+pub use known_names::KnownNames;
 pub use laws::{chosen_members_keep, coded_is_short, dictionary_is_one};
 pub use widths::Widths;
