@@ -12,7 +12,7 @@ ghost use Rattle.group_writing.specs.GroupChunks.{chunks_size, chunks_written, c
 ghost use Rattle.open_group.specs.Filling.{texts_limit, is_full_by, counted_entries, rows_count};
 ghost use Rattle.open_group.specs.OpenGroups.{records_in, node_of, row_of, IsSettings, IsWrittenColumn, KeepsColumn};
 
-use crate::row_records::{record_of, row_text_len};
+use crate::row_records::{record_after, row_text_len};
 use crate::settings::Settings;
 use group_writing::{SchemaPath, WrittenGroup, write_group};
 use json_tree::Tree;
@@ -20,6 +20,7 @@ use level_striping::entries_of_row;
 use shred_schema::{Column, LeafList, RowList, RowRecord};
 use std::alloc::Global;
 use std::marker::Model;
+use variant_write::KnownNames;
 use vs_bytes::{NoMemory, Sequence};
 
 /// How many bytes the texts of a group's rows have when it closes, with 1 more for each.
@@ -78,6 +79,8 @@ pub struct OpenGroup {
     paths: Sequence<SchemaPath>,
     settings: Settings,
     gathered: Gathered,
+    // Those of the document that was added last.
+    names: KnownNames,
 }
 
 impl Model for OpenGroup {
@@ -121,6 +124,7 @@ impl OpenGroup {
             paths,
             settings,
             gathered: Gathered::new(alloc),
+            names: KnownNames::of(alloc, &Tree::Null)?,
         })
     }
 
@@ -134,7 +138,13 @@ impl OpenGroup {
         ensures column { KeepsColumn self.old self.new }
         ensures err { OnErr result (self.new ≡ self.old) }
     {
-        let made = record_of(self.alloc, &self.column.node, row, self.settings.widths)?;
+        let made = record_after(
+            self.alloc,
+            &self.column.node,
+            row,
+            self.settings.widths,
+            &mut self.names,
+        )?;
         match self.gathered.push(&self.column, made, row_text_len(row)) {
             Ok(()) => Ok(()),
             Err(refused) => Err(refused),

@@ -14,23 +14,30 @@ use json_tree::Tree;
 use shred_schema::{Node, RowRecord};
 use shredder::shred;
 use std::alloc::Global;
-use variant_write::{Widths, dictionary_of};
+use variant_write::{KnownNames, Widths};
 use vs_bytes::{Bytes, NoMemory};
 
 // For how many bytes of metadata there is room at first. A copy of what is written is kept, so that none of it is spare.
 const META_ROOM: usize = 256;
 
 // The record of a document: its names, and what stands in the column for it.
-fn present(alloc: Global, node: &Node, tree: &Tree, widths: Widths) -> Result<RowRecord, NoMemory>
+fn present(
+    alloc: Global,
+    node: &Node,
+    tree: &Tree,
+    widths: Widths,
+    known: &mut KnownNames,
+) -> Result<RowRecord, NoMemory>
     requires node { AllWritten (group_of node.now) }
     requires small { length (text_of (view tree.now)) ≤ max_text_len }
     requires widths { IsWidths widths }
     ensures { IfOk result (λ made. row_rec_of made ≡ shred_row (group_of node.now) (Some (view tree.now)) widths) }
 {
-    let names = dictionary_of(alloc, tree)?;
+    known.renew(alloc, tree)?;
+    let names = known.dictionary();
     let mut meta = Vec::with_capacity(alloc, META_ROOM)?;
     names.write(&mut meta, widths.offset)?;
-    let rec = shred(alloc, node, tree, &names, widths)?;
+    let rec = shred(alloc, node, tree, names, widths)?;
     Ok(RowRecord::Present {
         meta: Bytes::from_slice(alloc, meta.as_slice())?,
         rec,
@@ -49,9 +56,27 @@ pub fn record_of(
     requires widths { IsWidths widths }
     ensures { IfOk result (λ made. row_rec_of made ≡ shred_row (group_of node.now) (row_of row.entry) widths) }
 {
+    let mut known = KnownNames::of(alloc, &Tree::Null)?;
+    record_after(alloc, node, row, widths, &mut known)
+}
+
+/// The record of a row, after one whose names are known: a document mostly has the same, so that its dictionary need not
+/// be made. They are those of this row then.
+pub(crate) fn record_after(
+    alloc: Global,
+    node: &Node,
+    row: Option<&Tree>,
+    widths: Widths,
+    known: &mut KnownNames,
+) -> Result<RowRecord, NoMemory>
+    requires node { AllWritten (group_of node.now) }
+    requires small { IfSome row (λ tree. length (text_of (view tree.now)) ≤ max_text_len) }
+    requires widths { IsWidths widths }
+    ensures { IfOk result (λ made. row_rec_of made ≡ shred_row (group_of node.now) (row_of row.entry) widths) }
+{
     match row {
         None => Ok(RowRecord::Absent),
-        Some(tree) => present(alloc, node, tree, widths),
+        Some(tree) => present(alloc, node, tree, widths, known),
     }
 }
 

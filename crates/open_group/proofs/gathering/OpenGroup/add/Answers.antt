@@ -12,8 +12,8 @@ use Rattle.open_group.specs.Filling.{row_count, counted_entries, texts_limit}
 use Rattle.open_group.proofs.Gathers.{well_formed, row_is_of, after_push}
 use Rattle.open_group.proofs.gathering.OpenGroup.add.Goals as goal
 
-pub record_of-requires-clause-node : goal.record_of-requires-clause-node
-record_of-requires-clause-node c =
+pub record_after-requires-clause-node : goal.record_after-requires-clause-node
+record_after-requires-clause-node c =
     let n = group_of c.self.inside.column.node in
     schema_written (schema_text n) n c.self.invariant.is_column.schema
 
@@ -29,9 +29,9 @@ push-requires-clause-of c =
     (subst (λ (r : RowRec). RowIsOf true n r) (sym c.in_ok-made.ensures)
     (row_is_of (schema_text n) n c.self.inside.settings.widths (row_of c.args.row) c.self.invariant.is_column.schema c.self.invariant.chosen.widths c.requires.row))
 
-pub invariant_of-self : goal.invariant_of-self
+pub invariant_of-self-2 : goal.invariant_of-self-2
 unfolding row_count
-invariant_of-self c =
+invariant_of-self-2 c =
     let n = group_of c.self.inside.column.node in
     let old = c.self.invariant in
     record {
