@@ -23,7 +23,7 @@ abbrev pub cell_of : PrimKind → Option Cell → Option Cell
 cell_of q None = None
 cell_of q (Some c) = cond (is_of_prim q c) (Some c) None
 
--- its number, where it is one
+-- the number that a cell holds
 abbrev pub number_in : Option Cell → Option ℤ
 number_in None = None
 number_in (Some (leaf_cell.Bool b)) = None

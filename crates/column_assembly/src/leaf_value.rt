@@ -2,7 +2,6 @@
 
 ghost use Rattle.std.specs.Prelude.{◌≡◌, ◌+◌, ◌^◌, ◌<◌, ◌≤◌, true, false, length, IfSome, IfNone};
 ghost use Rattle.shred_schema.specs.Groups.{slot_width};
-ghost use Rattle.shred_schema.specs.Cells.{is_of_prim};
 ghost use Rattle.record_assembly.specs.Reading.{only_cell, bytes_read, value_read};
 ghost use Rattle.column_assembly.specs.Items.{cell_of, number_in, is_no_value};
 ghost use Rattle.column_assembly.specs.Leaves.{heads, TakenAt, Passed};
@@ -74,8 +73,7 @@ pub fn take_number(
     cursor.take_number(prim, lists, rep, def)
 }
 
-/// Takes what the leaf of a slot says, if the slot has one, where that is that there is no value, and says whether it
-/// was. Where it wasn't, nothing is taken.
+/// Passes a slot that has no value, and says whether it has none. Where it has one, nothing is taken.
 #[inline(always)]
 #[tactic(auto, using(crate::proofs::Passing::passed_none, crate::proofs::Passing::passed_one, crate::proofs::OneEntry::some_value))]
 pub fn take_no_value(

@@ -280,7 +280,7 @@ enum Front {
     Open,
 }
 
-// A copy of a line.
+// Most lines are long: a sequence of their own takes one allocation.
 fn copied(alloc: Global, line: &[u8]) -> Result<Sequence<u8>, NoMemory>
     ensures { IfOk result (λ copy. copy ≡ line.now) }
 {

@@ -12,7 +12,7 @@ ghost use Rattle.group_writing.specs.GroupChunks.{chunks_size, chunks_written, c
 ghost use Rattle.open_group.specs.Filling.{texts_limit, is_full_by, counted_entries, rows_count};
 ghost use Rattle.open_group.specs.OpenGroups.{records_in, node_of, row_of, IsSettings, IsWrittenColumn, KeepsColumn};
 
-use crate::row_records::{record_after, row_text_len};
+use crate::row_records::{record_of, row_text_len};
 use crate::settings::Settings;
 use group_writing::{SchemaPath, WrittenGroup, write_group};
 use json_tree::Tree;
@@ -79,7 +79,7 @@ pub struct OpenGroup {
     paths: Sequence<SchemaPath>,
     settings: Settings,
     gathered: Gathered,
-    // Those of the document that was added last.
+    // The names of the document that was tried last; none at first.
     names: KnownNames,
 }
 
@@ -138,7 +138,7 @@ impl OpenGroup {
         ensures column { KeepsColumn self.old self.new }
         ensures err { OnErr result (self.new ≡ self.old) }
     {
-        let made = record_after(
+        let made = record_of(
             self.alloc,
             &self.column.node,
             row,

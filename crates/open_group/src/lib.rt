@@ -12,5 +12,4 @@ mod row_records;
 mod settings;
 
 pub use gathering::OpenGroup;
-pub use row_records::record_of;
 pub use settings::Settings;

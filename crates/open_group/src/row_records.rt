@@ -44,25 +44,9 @@ fn present(
     })
 }
 
-/// The record of a row: a document, or none.
-pub fn record_of(
-    alloc: Global,
-    node: &Node,
-    row: Option<&Tree>,
-    widths: Widths,
-) -> Result<RowRecord, NoMemory>
-    requires node { AllWritten (group_of node.now) }
-    requires small { IfSome row (λ tree. length (text_of (view tree.now)) ≤ max_text_len) }
-    requires widths { IsWidths widths }
-    ensures { IfOk result (λ made. row_rec_of made ≡ shred_row (group_of node.now) (row_of row.entry) widths) }
-{
-    let mut known = KnownNames::of(alloc, &Tree::Null)?;
-    record_after(alloc, node, row, widths, &mut known)
-}
-
-/// The record of a row, after one whose names are known: a document mostly has the same, so that its dictionary need not
-/// be made. They are those of this row then.
-pub(crate) fn record_after(
+/// The record of a row: a document, or none. `known` has the names of a document before it: most documents have the
+/// same, and then no dictionary is made.
+pub(crate) fn record_of(
     alloc: Global,
     node: &Node,
     row: Option<&Tree>,

@@ -1,20 +1,17 @@
 -- Parts that are taken one after the other, joined to records and fields.
-use Rattle.std.proofs.Common.{◌≡◌, ◌∙◌, refl, sym, ap, ap₂, subst, ℕ, zero, suc, ◌+◌, ◌<◌, ◌≤◌, Bool, true, false, cond, List, [], ◌∷◌, ◌++◌, length, map, drop, get_or, Option, Some, None, Result, Err, zero-add, add-zero, arith, rules}
+use Rattle.std.proofs.Common.{◌≡◌, ◌∙◌, refl, sym, ap, ap₂, subst, ℕ, zero, suc, ◌+◌, ◌<◌, ◌≤◌, Bool, true, false, cond, List, [], ◌∷◌, ◌++◌, length, map, drop, get_or, Option, Some, None, Result, Err, zero-add, add-zero, arith}
 use Rattle.std.specs.Option.{option_map}
 use Rattle.std.proofs.lemmas.List.{map-append}
-use Rattle.vs_bytes.specs.declared.leaf_columns.Cell.{Cell}
 use Rattle.vs_bytes.specs.declared.leaf_columns.Entry.{Entry}
 use Rattle.shred_schema.specs.declared.nodes.Slot.{Slot}
 use Rattle.shred_schema.specs.declared.nodes.Slot.TheVariants.{Absent, Required, Optional}
 use Rattle.shred_schema.specs.declared.nodes.Node.{Node}
-use Rattle.shred_schema.specs.declared.records.Part.{the_lemmas}
-use Rattle.shred_schema.specs.declared.records.Part.TheVariants as part
 use Rattle.shred_schema.specs.declared.records.Record.{Record}
 use Rattle.shred_schema.specs.Groups.{Group, group, Kind, free, scalar, object_of, list_of, groups_from, slot_width, width, kind_width, groups_width, height, groups_height}
 use Rattle.shred_schema.specs.Lawful.{HasLeaves, KindHasLeaves, GroupsHaveLeaves}
 use Rattle.shred_schema.specs.Ranges.{is_among, every}
-use Rattle.shred_schema.specs.Recs.{Rec, rec, RecPart, empty, cell, items, Recs, no_recs, recs, recs_from}
-use Rattle.shred_schema.specs.Views.{group_of, named, rec_of, part_of}
+use Rattle.shred_schema.specs.Recs.{Rec, rec, RecPart, empty, items, Recs, no_recs, recs, recs_from}
+use Rattle.shred_schema.specs.Views.{group_of, named, rec_of}
 use Rattle.shred_schema.proofs.Viewed.{fields_at, fields_end}
 use Rattle.record_assembly.specs.Laws.{Have}
 use Rattle.record_assembly.specs.Reading.{is_null, value_read, with_part, with_field, are_null, read, part_read, fields_read}
@@ -196,15 +193,7 @@ pub put_fails : {D : Type 0} (refused : Refused Nothing) (part : Option Rec) (ol
 put_fails (Fault fault) part old new all h k = k h
 put_fails NoMemory part old new all h k = tt
 
-pub not_put : (refused : Refused Nothing) (part : Option RecPart) (all : Option Rec) (old new : List Record) → Reads {A = RecPart} {F = Nothing} (λ x. x) (Err refused) part → (part ≡ None → all ≡ None) → Puts (Err refused) all old new
-not_put (Fault fault) part all old new h k = k h
-not_put NoMemory part all old new h k = tt
-
 -- ---- a record that is put after others
-
--- a cell, as plain data
-pub part_is_cell : (c : Cell) → part_of (part.Cell c) ≡ cell c
-part_is_cell c = search (rules, the_lemmas)
 
 pub put_part : (v : Option (List ℕ)) (o : Option RecPart) (p : RecPart) (x : Record) (old room new : List Record) → new ≡ room ++ x ∷ [] → room ≡ old → rec_of x ≡ rec v p → o ≡ Some p → Put (with_part (Some v) o) old new
 put_part v o p x old room new added same one typed = record {

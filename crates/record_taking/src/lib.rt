@@ -6,10 +6,12 @@
 //! | Module | What it holds |
 //! |---|---|
 //! | `levels` | `Levels`: where a record stands |
+//! | `scalars` | scalars that are there, taken by the shortest way |
 //! | `taking` | `take_record`: a record, and what stands in it |
 #![tactic(auto)]
 
 mod levels;
+mod scalars;
 mod taking;
 
 pub use levels::Levels;

@@ -3,27 +3,27 @@
 //! The first leaf of a part says whether the part is there. What its other leaves must then say is found where they
 //! are taken. Where no record has the entries, how far the leaves are taken is open.
 
-ghost use Rattle.std.specs.Prelude.{◌≡◌, ◌+◌, ◌-◌, ◌*◌, ◌^◌, ◌<◌, ◌≤◌, length, map, not, option_map, Some, None, IfOk, IfSome, IfNone};
+ghost use Rattle.std.specs.Prelude.{◌≡◌, ◌+◌, ◌-◌, ◌*◌, ◌^◌, ◌<◌, ◌≤◌, length, map, not, option_map, Some, IfOk};
 ghost use Rattle.shred_schema.specs.Groups.{width, kind_width, groups_width, height, kind_height, groups_height};
 ghost use Rattle.shred_schema.specs.Lawful.{HasLeaves, KindHasLeaves, GroupsHaveLeaves, max_leaves};
 ghost use Rattle.shred_schema.specs.Ranges.{every};
-ghost use Rattle.shred_schema.specs.Recs.{rec, cell, recs_from};
+ghost use Rattle.shred_schema.specs.Recs.{recs_from};
 ghost use Rattle.shred_schema.specs.Views.{group_of, kind_of, groups_of, part_or_empty, rec_of, part_of};
 ghost use Rattle.vs_bytes.specs.Outcome.{Reads};
-ghost use Rattle.vs_bytes.specs.declared.leaf_columns.Cell.TheVariants as leaf_cell;
 ghost use Rattle.record_assembly.specs.Cuts.{is_nil};
 ghost use Rattle.record_assembly.specs.Reading.{is_null, are_nil, with_part, read, part_read, fields_read};
 ghost use Rattle.column_assembly.specs.Leaves.{heads, Passed};
 ghost use Rattle.record_taking.specs.Parts.{Puts, is_bare, is_free, rests, typed_read, list_read, items_of};
 
 use crate::levels::Levels;
-use column_assembly::{Cursor, take_cell, take_no_value, take_nulls, take_number, take_value};
+use crate::scalars::{number_record, take_scalar, take_scalar_number};
+use column_assembly::{Cursor, take_cell, take_no_value, take_nulls, take_value};
 use shred_schema::{
     FieldList, Node, Part, Record, RecordList, Slot, Typed, slot_width, typed_width, width,
 };
 use sqlite_items::Items;
 use std::alloc::Global;
-use vs_bytes::{Absent, Bytes, Cell, Refused};
+use vs_bytes::{Absent, Bytes, Refused};
 
 // For how many items a list has room at first: most have no more.
 const ITEM_ROOM: usize = 8;
@@ -93,11 +93,11 @@ fn put_record(
         return put_valued(alloc, cursors, leaf, node, levels, records);
     }
     let first = leaf + slot_width(node.value);
-    // Room first: a push that can fail holds the record twice.
-    records.reserve(1)?;
     // Most fields and items are scalars without a value beside them. A number is copied, and no cell is moved.
     match take_scalar_number(cursors, first, &node.typed, levels) {
         Some(number) => {
+            // Room first: a push that can fail holds the record twice.
+            records.reserve(1)?;
             records.push_reserved(number_record(number));
             Ok(first + 1)
         }
@@ -105,18 +105,7 @@ fn put_record(
     }
 }
 
-/// The record of a number without a value beside it.
-#[inline(always)]
-fn number_record(number: i128) -> Record
-    ensures { rec_of result ≡ rec None (cell (leaf_cell.Num number)) }
-{
-    Record {
-        value: None,
-        typed: Some(Part::Cell(Cell::Num(number))),
-    }
-}
-
-/// The same of a record that has a value.
+/// The same, where the value's leaf may say anything.
 #[cycle(take)]
 fn put_valued(
     alloc: Global,
@@ -184,60 +173,6 @@ fn put_typed(
     let (typed, next) = take_typed(alloc, cursors, leaf, typed, levels)?;
     records.push_reserved(Record { value, typed });
     Ok(next)
-}
-
-/// Takes the number of a scalar. `None` where a node has another typed part, or no number is there: then nothing is
-/// taken.
-#[inline(always)]
-#[tactic(auto, using(column_assembly::proofs::OneEntry::number_back))]
-fn take_scalar_number(
-    cursors: &mut [Cursor],
-    leaf: usize,
-    typed: &Typed,
-    levels: Levels,
-) -> Option<i128>
-    requires inside { leaf + kind_width (kind_of typed.now) ≤ length cursors.old }
-    requires level { levels.def + 1 < 2 ^ 16 }
-    ensures read { IfSome result (λ n. typed_read (kind_of typed.now) leaf levels.rep levels.lists levels.def (heads levels.lists cursors.old) ≡ Some (cell (leaf_cell.Num n))) }
-    ensures width { IfSome result (λ n. kind_width (kind_of typed.now) ≡ 1) }
-    ensures passed { IfSome result (λ n. Passed cursors.old cursors.new leaf (kind_width (kind_of typed.now)) levels.lists) }
-    ensures kept { IfNone result (cursors.new ≡ cursors.old) }
-{
-    match typed {
-        Typed::Prim(prim) => take_number(
-            cursors,
-            leaf,
-            *prim,
-            levels.lists,
-            levels.rep,
-            levels.def + 1,
-        ),
-        _ => None,
-    }
-}
-
-/// Takes the cell of a scalar. `None` where a node has another typed part, or its cell isn't there: then nothing is
-/// taken.
-#[inline(always)]
-fn take_scalar(cursors: &mut [Cursor], leaf: usize, typed: &Typed, levels: Levels) -> Option<Cell>
-    requires inside { leaf + kind_width (kind_of typed.now) ≤ length cursors.old }
-    requires level { levels.def + 1 < 2 ^ 16 }
-    ensures read { IfSome result (λ c. typed_read (kind_of typed.now) leaf levels.rep levels.lists levels.def (heads levels.lists cursors.old) ≡ Some (cell c)) }
-    ensures width { IfSome result (λ c. kind_width (kind_of typed.now) ≡ 1) }
-    ensures passed { IfSome result (λ c. Passed cursors.old cursors.new leaf (kind_width (kind_of typed.now)) levels.lists) }
-    ensures kept { IfNone result (cursors.new ≡ cursors.old) }
-{
-    match typed {
-        Typed::Prim(prim) => take_cell(
-            cursors,
-            leaf,
-            *prim,
-            levels.lists,
-            levels.rep,
-            levels.def + 1,
-        ),
-        _ => None,
-    }
 }
 
 /// Takes the typed part of a node, if there is one.

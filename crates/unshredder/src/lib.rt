@@ -9,8 +9,8 @@
 //! | `merging` | what the value and the typed part of one node mean together |
 //! | `records` | records, node by node |
 //! | `needing` | whether the names of a row's metadata are needed |
-//! | `places` | the places of fields in the order of their names |
-//! | `readings` | `Reading`: how each node is read under a mask |
+//! | `places` | the places of the fields that are read, in the order of their names |
+//! | `readings` | `Reading`: how a node is read under a mask, and what is read inside it |
 //! | `rows` | `unshred`: a row; `Reading::new`, `Reading::row`: many of them |
 #![tactic(auto)]
 

@@ -13,7 +13,8 @@ use sqlite_items::Items;
 use std::alloc::Global;
 use vs_bytes::{NoMemory, Text};
 
-/// How a node is read under a mask, and each node inside it of which some leaf is read.
+/// How a node is read under a mask, with the same of what is inside it: the fields of which some leaf is read, or the
+/// element.
 #[cycle(reading)]
 #[derive(Drop)]
 pub struct Reading {
@@ -27,7 +28,8 @@ pub struct Reading {
     pub(crate) tested: bool,
     // Moves that bring the members of the fields that are read into the order of their names.
     pub(crate) moves: Moves,
-    // How each field is read of which some leaf is, in their order, or the element. A row passes over the other fields.
+    // The readings of the fields of which some leaf is read, in order; or that of the element. A row passes over the
+    // other fields.
     pub(crate) inside: Items<Reading>,
 }
 

@@ -1,6 +1,6 @@
 //! Names that are kept for the next value.
 
-ghost use Rattle.std.specs.Prelude.{◌≡◌, ◌≤◌, ◌∷◌, ◌++◌, length, map, IfOk, IfSome, OnOk, IsTrue};
+ghost use Rattle.std.specs.Prelude.{◌≡◌, ◌≤◌, ◌∷◌, ◌++◌, length, map, IfOk, IfSome, OnOk, OnErr, IsTrue};
 ghost use Rattle.json_tree.specs.Json.{parts_of, fields_of};
 ghost use Rattle.json_tree.specs.Text.{text_of};
 ghost use Rattle.json_tree.specs.View.{view, seen};
@@ -64,11 +64,12 @@ impl KnownNames {
         }
     }
 
-    /// Turns them into those of a value whose canonical text has at most 16 MiB.
+    /// Turns them into those of a value whose canonical text has at most 16 MiB. After an `Err` they are as before.
     pub fn renew(&mut self, alloc: Global, tree: &Tree) -> Result<(), NoMemory>
         requires small { length (text_of (view tree.now)) ≤ max_text_len }
         ensures names { OnOk result (self.new ≡ dictionary (view tree.now)) }
         ensures has { OnOk result (HasNames self.new (view tree.now)) }
+        ensures err { OnErr result (self.new ≡ self.old) }
     {
         if self.stand_in(tree) {
             return Ok(());
@@ -99,10 +100,7 @@ fn after_elements<'a>(names: &'a [Text], trees: &[Tree]) -> Option<&'a [Text]>
 {
     let mut left = names;
     for tree in trees {
-        match after(left, tree) {
-            Some(rest) => left = rest,
-            None => return None,
-        }
+        left = after(left, tree)?;
     }
     Some(left)
 }
@@ -113,13 +111,7 @@ fn after_members<'a>(names: &'a [Text], pairs: &[(Text, Tree)]) -> Option<&'a [T
 {
     let mut left = names;
     for pair in pairs {
-        match after_name(left, &pair.0) {
-            Some(behind) => match after(behind, &pair.1) {
-                Some(rest) => left = rest,
-                None => return None,
-            },
-            None => return None,
-        }
+        left = after(after_name(left, &pair.0)?, &pair.1)?;
     }
     Some(left)
 }

@@ -170,9 +170,9 @@ put_valued-returns-clause-passed t c =
 
 pub put_record-returns-in-None-clause-puts : goal.put_record-returns-in-None-clause-puts
 put_record-returns-in-None-clause-puts t c =
-    put_rest c.args.node.now.value (kind_of c.args.node.now.typed) _ None c.args.leaf c.args.levels.rep c.args.levels.lists c.args.levels.def c.args.cursors.now c.take_no_value.new.cursors (node_is c.args.node.now) (no_value _ (sym c.if-not-take_no_value.false ∙ c.take_no_value.ensures.none)) (c.take_no_value.ensures.passed c.if-not-take_no_value.false) _ _ _ _ c.reserve.ensures.items (rw (c.slot_width.ensures, c.in-None.ensures.kept) at c.put_typed.ensures.puts)
+    put_rest c.args.node.now.value (kind_of c.args.node.now.typed) _ None c.args.leaf c.args.levels.rep c.args.levels.lists c.args.levels.def c.args.cursors.now c.take_no_value.new.cursors (node_is c.args.node.now) (no_value _ (sym c.if-not-take_no_value.false ∙ c.take_no_value.ensures.none)) (c.take_no_value.ensures.passed c.if-not-take_no_value.false) _ _ _ _ refl (rw (c.slot_width.ensures, c.in-None.ensures.kept) at c.put_typed.ensures.puts)
 
-pub put_record-returns-in-Some-clause-puts : goal.put_record-returns-in-Some-clause-puts
-put_record-returns-in-Some-clause-puts t c =
+pub put_record-returns-in_ok-reserve-in-Some-clause-puts : goal.put_record-returns-in_ok-reserve-in-Some-clause-puts
+put_record-returns-in_ok-reserve-in-Some-clause-puts t c =
     let fits : SFits w128 c.in-Some.number = search rules in
     put_one c.args.node.now.value (kind_of c.args.node.now.typed) _ None c.args.leaf c.args.levels.rep c.args.levels.lists c.args.levels.def c.args.cursors.now c.take_no_value.new.cursors (node_is c.args.node.now) (no_value _ (sym c.if-not-take_no_value.false ∙ c.take_no_value.ensures.none)) (c.take_no_value.ensures.passed c.if-not-take_no_value.false) _ _ _ _ _ c.push_reserved.ensures.items c.reserve.ensures.items (rw (to_z-of_z fits) at c.number_record.ensures) (rw c.slot_width.ensures at c.in-Some.ensures.read)

@@ -12,8 +12,8 @@ use Rattle.open_group.specs.Filling.{row_count, counted_entries, texts_limit}
 use Rattle.open_group.proofs.Gathers.{well_formed, row_is_of, after_push}
 use Rattle.open_group.proofs.gathering.OpenGroup.add.Goals as goal
 
-pub record_after-requires-clause-node : goal.record_after-requires-clause-node
-record_after-requires-clause-node c =
+pub record_of-requires-clause-node : goal.record_of-requires-clause-node
+record_of-requires-clause-node c =
     let n = group_of c.self.inside.column.node in
     schema_written (schema_text n) n c.self.invariant.is_column.schema
 
