@@ -1,8 +1,9 @@
 //! Footers that would be longer than 67,108,864 bytes.
 
-use crate::calls::{file_of, loaded, without_footer};
 use std::alloc::Global;
 use std::test::Fail;
+use test_files::{file_of, loaded, outcome_text, without_footer};
+use test_rows::Wrong;
 use test_runs::{Outcome, repeated};
 use vs_bytes::NoMemory;
 
@@ -14,27 +15,51 @@ use vs_bytes::NoMemory;
 // 67,090,515 bytes, and with one more 67,122,716.
 const MOST_GROUPS: usize = 2_083;
 
-// Loads so many empty objects, each into a group of its own, under a schema whose one field has a name of 16,000 letters.
-fn load_rows(alloc: Global, rows: usize) -> Result<Outcome, NoMemory> {
+// Loads so many empty objects, into groups of so many, under a schema whose one field has a name of 16,000 letters.
+fn load_rows(alloc: Global, rows: usize, group_rows: usize) -> Result<Outcome, NoMemory> {
     let name = repeated(alloc, "a", "", 16_000)?;
-    let words = format!(in alloc; "load f --group-rows=1 --schema={{{name}:int8}}")?;
+    let words = format!(in alloc; "load f --group-rows={group_rows} --schema={{{name}:int8}}")?;
     let input = repeated(alloc, "{}\n", "", rows)?;
     loaded(alloc, words.as_str(), input.as_bytes())
+}
+
+// The file of so many rows, which fit.
+fn file_with(alloc: Global, rows: usize, group_rows: usize) -> Result<Vec<u8>, Wrong> {
+    let load = load_rows(alloc, rows, group_rows)?;
+    if load.status == 0 {
+        return Ok(Vec::from_slice(alloc, file_of(alloc, &load.shelf)?)?);
+    }
+    Err(Wrong::Row(outcome_text(alloc, &load)?))
+}
+
+// Checks that so many rows don't fit, and that these groups stand.
+fn check_full(alloc: Global, rows: usize, group_rows: usize, groups: &[u8]) -> Result<(), Wrong> {
+    let load = load_rows(alloc, rows, group_rows)?;
+    let is_told = load.status == 3 && load.err.bytes() == b"vstore: footer full\n".as_slice();
+    if is_told && file_of(alloc, &load.shelf)? == groups {
+        return Ok(());
+    }
+    Err(Wrong::Row(outcome_text(alloc, &load)?))
 }
 
 // The last group stays open, and the file ends with the group before it.
 #[test]
 fn a_footer_has_at_most_67108864_bytes(rt: HostRuntime) -> Result<(), Fail> {
     let alloc = rt.alloc();
-    let met = load_rows(alloc, MOST_GROUPS)?;
-    assert_eq!(&rt; met.status, 0);
-    let file = file_of(alloc, &met.shelf)?;
+    let file = file_with(alloc, MOST_GROUPS, 1)?;
     let groups = without_footer(file.as_slice());
     assert_eq!(&rt; groups.len(), 4 + 102 * MOST_GROUPS);
     assert_eq!(&rt; file.len().saturating_sub(groups.len()), 67_090_515 + 8);
-    let full = load_rows(alloc, MOST_GROUPS + 1)?;
-    assert_eq!(&rt; full.status, 3);
-    assert_eq!(&rt; full.err.bytes(), b"vstore: footer full\n".as_slice());
-    assert_eq!(&rt; file_of(alloc, &full.shelf)?.as_slice(), groups);
+    check_full(alloc, MOST_GROUPS + 1, 1, groups)?;
+    Ok(())
+}
+
+// The last group isn't full: it closes where the input ends. A group of two rows takes a few bytes more, and as many fit.
+#[test]
+fn a_group_that_the_end_closes_can_be_one_too_many(rt: HostRuntime) -> Result<(), Fail> {
+    let alloc = rt.alloc();
+    let file = file_with(alloc, 2 * MOST_GROUPS, 2)?;
+    let groups = without_footer(file.as_slice());
+    check_full(alloc, 2 * MOST_GROUPS + 1, 2, groups)?;
     Ok(())
 }

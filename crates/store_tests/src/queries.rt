@@ -1,18 +1,24 @@
 //! Files that a load wrote, queried and checked in the calls after it.
 
-use crate::calls::{called, lines_of, loaded, outcome_text};
 use shelf::MemShelf;
 use std::alloc::Global;
 use std::test::Fail;
+use test_files::{answer_text, lines_of, push_answer};
 use test_rows::{Shown, Wrong, check_rows, split_row};
+
+// Loads documents, and appends how that ends.
+fn push_load(alloc: Global, text: &mut String, load: &str, input: &str) -> Result<MemShelf, Wrong> {
+    let input = lines_of(alloc, input)?;
+    let shelf = MemShelf::new(alloc, Vec::new(alloc));
+    push_answer(alloc, text, load, shelf, input.as_bytes())
+}
 
 // Loads documents, and shows how the load and the call after it end.
 fn answers_text(alloc: Global, load: &str, input: &str, words: &str) -> Result<String, Wrong> {
-    let load = loaded(alloc, load, lines_of(alloc, input)?.as_bytes())?;
-    let mut text = outcome_text(alloc, &load)?;
+    let mut text = String::new(alloc);
+    let shelf = push_load(alloc, &mut text, load, input)?;
     text.push_str(", ")?;
-    let call = called(alloc, words, load.shelf, b"1\n")?;
-    text.push_str(outcome_text(alloc, &call)?.as_str())?;
+    push_answer(alloc, &mut text, words, shelf, b"1\n")?;
     Ok(text)
 }
 
@@ -111,8 +117,7 @@ struct NoFiles;
 
 impl Shown for NoFiles {
     fn shown(alloc: Global, given: &str) -> Result<String, Wrong> {
-        let call = called(alloc, given, MemShelf::new(alloc, Vec::new(alloc)), b"1")?;
-        outcome_text(alloc, &call)
+        answer_text(alloc, given, MemShelf::new(alloc, Vec::new(alloc)), b"1")
     }
 }
 

@@ -1,8 +1,9 @@
 //! Twenty records with an amount that is a text, and a user without an age.
 
-use crate::calls::{called, loaded, outcome_text};
+use shelf::MemShelf;
 use std::alloc::Global;
 use std::test::Fail;
+use test_files::{answer_text, load_shelf};
 use test_rows::{Shown, Wrong, check_rows, split_row};
 
 pub const RECORDS: &str =
@@ -27,18 +28,21 @@ pub const RECORDS: &str =
 {"id":1018,"ts":"2024-05-01T10:18:00Z","user":{"name":"u0","age":38},"amount":18.25,"tags":["a","b"]}
 {"id":1019,"ts":"2024-05-01T10:19:00Z","user":{"name":"u1","age":39},"amount":19.25,"tags":["a","b"]}"#;
 
+// A shelf with the file of the records, loaded with these options.
+fn records_shelf(alloc: Global, options: &str) -> Result<MemShelf, Wrong> {
+    let load = format!(in alloc;
+        "load f --schema={{id:int64,ts:string,user:{{name:string,age:int8}},amount:decimal(9,2),tags:[string]}} {options}"
+    )?;
+    Ok(load_shelf(alloc, load.as_str(), RECORDS.as_bytes())?)
+}
+
 // A row gives the options of the load, and the words of the call after it.
 struct Answers;
 
 impl Shown for Answers {
     fn shown(alloc: Global, given: &str) -> Result<String, Wrong> {
         let (options, words) = split_row(alloc, given)?;
-        let load = format!(in alloc;
-            "load f --schema={{id:int64,ts:string,user:{{name:string,age:int8}},amount:decimal(9,2),tags:[string]}} {options}"
-        )?;
-        let load = loaded(alloc, load.as_str(), RECORDS.as_bytes())?;
-        let call = called(alloc, words, load.shelf, b"")?;
-        outcome_text(alloc, &call)
+        answer_text(alloc, words, records_shelf(alloc, options)?, b"")
     }
 }
 

@@ -1,10 +1,10 @@
 //! A query of a loaded file prints what a scan of its documents prints.
 
-use crate::calls::{called, lines_of, loaded, outcome_text};
 use crate::records::RECORDS;
 use shelf::MemShelf;
 use std::alloc::Global;
 use std::test::Fail;
+use test_files::{lines_of, loaded, push_answer};
 use test_rows::Wrong;
 
 // What documents are, from those that no schema below fits to those that one fits, one set a line; a `¶` stands for LF.
@@ -52,28 +52,35 @@ const ASKED: &str = r#"$ $.a $.a.b.c $.a.b $.a.a.a $.t[*].k $.t[0] $[0][0] $[*]
 --where=$.a·>·1·or·$.t[*]·=·"x" $.a $.t
 --where=not·$·=·null $.s $.n $.o.q[*]"#;
 
-// How the scans of documents end, for all that is asked.
-fn scans_text(alloc: Global, input: &str) -> Result<String, Wrong> {
+// How a command ends, for all that is asked.
+fn answers_text(
+    alloc: Global,
+    command: &str,
+    shelf: MemShelf,
+    input: &str,
+) -> Result<String, Wrong> {
     let mut text = String::new(alloc);
+    let mut shelf = shelf;
     for asked in ASKED.split('\n') {
-        let words = format!(in alloc; "scan {asked}")?;
-        let scan = loaded(alloc, words.as_str(), input.as_bytes())?;
-        text.push_str(outcome_text(alloc, &scan)?.as_str())?;
+        let words = format!(in alloc; "{command} {asked}")?;
+        shelf = push_answer(alloc, &mut text, words.as_str(), shelf, input.as_bytes())?;
     }
     Ok(text)
 }
 
-// How the queries of the file f end, for all that is asked.
-fn queries_text(alloc: Global, shelf: MemShelf) -> Result<String, Wrong> {
-    let mut text = String::new(alloc);
-    let mut shelf = shelf;
-    for asked in ASKED.split('\n') {
-        let words = format!(in alloc; "query f {asked}")?;
-        let query = called(alloc, words.as_str(), shelf, b"")?;
-        text.push_str(outcome_text(alloc, &query)?.as_str())?;
-        shelf = query.shelf;
+// Checks the answers of queries, after a load that ended so.
+fn check_answers(
+    alloc: Global,
+    status: u8,
+    shelf: MemShelf,
+    load: &str,
+    wanted: &str,
+) -> Result<(), Wrong> {
+    let found = answers_text(alloc, "query f", shelf, "")?;
+    if status == 0 && found.as_str() == wanted {
+        return Ok(());
     }
-    Ok(text)
+    Err(Wrong::Row(format!(in alloc; "{load}: {found}, but scans give {wanted}")?))
 }
 
 // Checks what is asked of documents that are loaded by one schema.
@@ -86,11 +93,7 @@ fn check_load(
 ) -> Result<(), Wrong> {
     let words = format!(in alloc; "load f --schema {schema} {options}")?;
     let load = loaded(alloc, words.as_str(), input.as_bytes())?;
-    let found = queries_text(alloc, load.shelf)?;
-    if load.status == 0 && found.as_str() == wanted {
-        return Ok(());
-    }
-    Err(Wrong::Row(format!(in alloc; "{words}: {found}, but scans give {wanted}")?))
+    check_answers(alloc, load.status, load.shelf, words.as_str(), wanted)
 }
 
 // Checks documents under all options.
@@ -104,7 +107,8 @@ fn check_options(alloc: Global, schema: &str, input: &str, wanted: &str) -> Resu
 
 // Checks documents under all schemas.
 fn check_documents(alloc: Global, input: &str) -> Result<(), Wrong> {
-    let wanted = scans_text(alloc, input)?;
+    let no_files = MemShelf::new(alloc, Vec::new(alloc));
+    let wanted = answers_text(alloc, "scan", no_files, input)?;
     for schema in SCHEMAS.split('\n') {
         check_options(alloc, schema, input, wanted.as_str())?;
     }

@@ -1,12 +1,12 @@
 //! Files that were cut, changed at random, or made of random bytes: a query and a check of each end with an answer or a
-//! rule, and a check refuses what a query does.
+//! rule.
 
-use crate::calls::{called, file_of, lines_of, loaded, outcome_text, shelf_of, without_footer};
 use crate::draws::Draws;
+use crate::verdicts::is_refused;
 use std::alloc::Global;
 use std::test::Fail;
-use test_rows::{Wrong, hex_text, split_row};
-use test_runs::Outcome;
+use test_files::{lines_of, load_file, without_footer};
+use test_rows::{Wrong, split_row};
 use vs_bytes::NoMemory;
 
 // Files: the options of a load, and its documents.
@@ -19,43 +19,8 @@ const FILES: &str = r#"--group-rows=2 | {"a":1,"z":2}¶[1,"x",null]¶7
 fn file_with(alloc: Global, row: &str) -> Result<Vec<u8>, Wrong> {
     let (options, input) = split_row(alloc, row)?;
     let load = format!(in alloc; "load f {options}")?;
-    let load = loaded(alloc, load.as_str(), lines_of(alloc, input)?.as_bytes())?;
-    Ok(file_of(alloc, &load.shelf)?)
-}
-
-// Whether bytes are whole lines.
-fn are_lines(bytes: &[u8]) -> bool {
-    bytes.is_empty() || bytes.ends_with(b"\n")
-}
-
-// Whether a call ended with an answer, or with a rule of the file.
-fn is_answer_or_rule(run: &Outcome) -> bool {
-    let err = run.err.bytes();
-    let told = match run.status {
-        0 => err.is_empty(),
-        4 => err.starts_with(b"vstore: file 1: ") && err.ends_with(b"\n"),
-        _ => false,
-    };
-    told && are_lines(run.out.bytes())
-}
-
-// A query and a check of a file, and whether both ended as they may: the check refuses it where the query does.
-fn judged(alloc: Global, query: &Outcome, check: &Outcome, file: &[u8]) -> Result<bool, Wrong> {
-    let agree = query.status <= check.status;
-    if agree && is_answer_or_rule(query) && is_answer_or_rule(check) {
-        return Ok(check.status == 4);
-    }
-    let bytes = hex_text(alloc, file)?;
-    let query = outcome_text(alloc, query)?;
-    let check = outcome_text(alloc, check)?;
-    Err(Wrong::Row(format!(in alloc; "{bytes}: {query}, {check}")?))
-}
-
-// Whether a check refuses a file.
-fn is_refused(alloc: Global, file: &[u8]) -> Result<bool, Wrong> {
-    let query = called(alloc, "query f $", shelf_of(alloc, file, &[])?, b"")?;
-    let check = called(alloc, "check f", shelf_of(alloc, file, &[])?, b"")?;
-    judged(alloc, &query, &check, file)
+    let input = lines_of(alloc, input)?;
+    Ok(load_file(alloc, load.as_str(), input.as_bytes())?)
 }
 
 // Checks that a file is refused wherever it is cut, and not where it is whole.

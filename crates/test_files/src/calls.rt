@@ -1,10 +1,10 @@
-//! Calls on a shelf of one file, and what they answer as text.
+//! Calls with the words of a row, and what they answer as text.
 
 use outside::{MemSink, MemSource};
 use shelf::MemShelf;
 use std::alloc::Global;
 use test_rows::Wrong;
-use test_runs::{Outcome, call_on, words_of};
+use test_runs::{Outcome, call_on};
 use vs_bytes::{NoMemory, Text};
 
 /// The documents, or the lines, of a row: a `¶` stands for LF.
@@ -41,19 +41,6 @@ pub fn loaded(alloc: Global, words: &str, input: &[u8]) -> Result<Outcome, NoMem
     called(alloc, words, MemShelf::new(alloc, Vec::new(alloc)), input)
 }
 
-/// A shelf whose one file f has these bytes. Its calls of these numbers fail.
-pub fn shelf_of(alloc: Global, bytes: &[u8], failing: &[u64]) -> Result<MemShelf, NoMemory> {
-    let mut shelf = MemShelf::new(alloc, Vec::from_slice(alloc, failing)?);
-    shelf.put(Text::from_str(alloc, "f")?, Vec::from_slice(alloc, bytes)?)?;
-    Ok(shelf)
-}
-
-/// The bytes of the file f.
-pub fn file_of(alloc: Global, shelf: &MemShelf) -> Result<Vec<u8>, NoMemory> {
-    let name = Text::from_str(alloc, "f")?;
-    Ok(Vec::from_slice(alloc, shelf.bytes(&name).unwrap_or(b""))?)
-}
-
 fn shown(bytes: &[u8]) -> &str {
     match std::str::from_utf8(bytes) {
         Ok(text) => text,
@@ -74,12 +61,25 @@ pub fn outcome_text(alloc: Global, outcome: &Outcome) -> Result<String, Wrong> {
     Ok(text)
 }
 
-/// A file without its footer, the length of that, and the magic number at its end.
-pub fn without_footer(file: &[u8]) -> &[u8] {
-    let end = file.len().saturating_sub(8);
-    let [a, b, c, d, ..] = &file[end..] else {
-        return file;
-    };
-    let size = u32::from_le_bytes([*a, *b, *c, *d]) as usize;
-    &file[..end.saturating_sub(size)]
+/// How a call on a shelf ends, as `outcome_text`.
+pub fn answer_text(
+    alloc: Global,
+    words: &str,
+    shelf: MemShelf,
+    input: &[u8],
+) -> Result<String, Wrong> {
+    outcome_text(alloc, &called(alloc, words, shelf, input)?)
+}
+
+/// Appends how a call on a shelf ends, and gives the shelf back.
+pub fn push_answer(
+    alloc: Global,
+    text: &mut String,
+    words: &str,
+    shelf: MemShelf,
+    input: &[u8],
+) -> Result<MemShelf, Wrong> {
+    let call = called(alloc, words, shelf, input)?;
+    text.push_str(outcome_text(alloc, &call)?.as_str())?;
+    Ok(call.shelf)
 }

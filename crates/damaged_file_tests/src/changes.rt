@@ -1,9 +1,9 @@
 //! Files whose bytes were changed at one place, and a file of another writer.
 
-use crate::calls::{called, file_of, lines_of, loaded, outcome_text, shelf_of};
 use shelf::MemShelf;
 use std::alloc::Global;
 use std::test::Fail;
+use test_files::{answer_text, called, lines_of, load_file, outcome_text, shelf_of};
 use test_rows::{Shown, Wrong, bytes_of, check_rows, hex_text, split_row};
 
 // The bytes of a loaded file with one stretch of them replaced, both in hex. It must stand there once.
@@ -19,15 +19,20 @@ fn changed(alloc: Global, file: &[u8], old: &str, new: &str) -> Result<Vec<u8>, 
     Ok(bytes_of(alloc, all.as_str())?)
 }
 
+// The file f that a load with these options makes.
+fn file_with(alloc: Global, options: &str, input: &str) -> Result<Vec<u8>, Wrong> {
+    let load = format!(in alloc; "load f {options}")?;
+    let input = lines_of(alloc, input)?;
+    Ok(load_file(alloc, load.as_str(), input.as_bytes())?)
+}
+
 // A shelf whose file f is loaded and then changed. The row gives the options of the load, its documents, and both
 // stretches.
 fn changed_shelf(alloc: Global, given: &str) -> Result<MemShelf, Wrong> {
     let (options, rest) = split_row(alloc, given)?;
     let (input, rest) = split_row(alloc, rest)?;
     let (old, new) = split_row(alloc, rest)?;
-    let load = format!(in alloc; "load f {options}")?;
-    let load = loaded(alloc, load.as_str(), lines_of(alloc, input)?.as_bytes())?;
-    let file = file_of(alloc, &load.shelf)?;
+    let file = file_with(alloc, options, input)?;
     let bytes = changed(alloc, file.as_slice(), old, new)?;
     Ok(shelf_of(alloc, bytes.as_slice(), &[])?)
 }
@@ -43,6 +48,14 @@ fn chunks_text(alloc: Global, shelf: &MemShelf) -> Result<String, Wrong> {
     Ok(text)
 }
 
+// How a call on a changed file ends, and the ranges that it asked for.
+fn change_text(alloc: Global, words: &str, shelf: MemShelf) -> Result<String, Wrong> {
+    let call = called(alloc, words, shelf, b"")?;
+    let answer = outcome_text(alloc, &call)?;
+    let chunks = chunks_text(alloc, &call.shelf)?;
+    Ok(format!(in alloc; "{answer} {chunks}")?)
+}
+
 // A row gives what `changed_shelf` takes, with `;` between its parts, and the words of the call.
 struct Changes;
 
@@ -51,11 +64,7 @@ impl Shown for Changes {
         let (file, words) = split_row(alloc, given)?;
         let file = file.replace(alloc, ';', " | ")?;
         let shelf = changed_shelf(alloc, file.as_str())?;
-        let call = called(alloc, words, shelf, b"")?;
-        let mut text = outcome_text(alloc, &call)?;
-        text.push_str(" ")?;
-        text.push_str(chunks_text(alloc, &call.shelf)?.as_str())?;
-        Ok(text)
+        change_text(alloc, words, shelf)
     }
 }
 
@@ -99,8 +108,7 @@ impl Shown for ByHand {
     fn shown(alloc: Global, given: &str) -> Result<String, Wrong> {
         let (digits, words) = split_row(alloc, given)?;
         let shelf = shelf_of(alloc, bytes_of(alloc, digits)?.as_slice(), &[])?;
-        let call = called(alloc, words, shelf, b"")?;
-        outcome_text(alloc, &call)
+        answer_text(alloc, words, shelf, b"")
     }
 }
 
