@@ -3,8 +3,8 @@ pub mod Apart
 pub mod Fields
 pub mod Members
 pub mod Moved
-pub mod NoNames
 pub mod NextRead
+pub mod NoValueRead
 pub mod NodesRead
 pub mod Parts
 pub mod Unread

@@ -37,14 +37,14 @@ unread_seen mask names (group s t) k above (rec (Some bytes) p) h =
     let apart = neither_read mask k (slot_width s) (kind_width t) h in
     rw (apart.0, apart.1) refl
 
-not_there : (there read : Bool) → read ≡ false → there && read ≡ false
+pub not_there : (there read : Bool) → read ≡ false → there && read ≡ false
 not_there true read h = h
 not_there false read h = refl
 
-neither : (b c : Bool) → b ≡ false → c ≡ false → b || c ≡ false
+pub neither : (b c : Bool) → b ≡ false → c ≡ false → b || c ≡ false
 neither b c e f = rw (e, f) refl
 
-none_of : (p : Rec → Bool) → ((x : Rec) → p x ≡ false) → (xs : Recs) → any_rec p xs ≡ false
+pub none_of : (p : Rec → Bool) → ((x : Rec) → p x ≡ false) → (xs : Recs) → any_rec p xs ≡ false
 none_of p h no_recs = refl
 none_of p h (recs x xs) = neither (p x) (any_rec p xs) (h x) (none_of p h xs)
 

@@ -1,16 +1,19 @@
 -- What a reading says of a node: what depends on the mask alone, for the node and for all inside it.
-use Rattle.std.specs.Prelude.{◌≡◌, ℕ, ◌+◌, Bool, true, false, List, [], ◌∷◌, ◌++◌}
+use Rattle.std.specs.Prelude.{◌≡◌, ℕ, ◌+◌, Bool, true, false, ◌||◌, List, [], ◌∷◌, ◌++◌}
+use Rattle.std.specs.List.{list_any}
 use Rattle.shred_schema.specs.Groups.{Group, group, Kind, object_of, list_of, Groups, no_groups, field, slot_width, width, kind_width}
 use Rattle.shred_schema.specs.Ranges.{is_any_read}
 use Rattle.shred_schema.specs.declared.nodes.Slot.{Slot}
 use Rattle.unshredder.specs.Seen.{is_tested}
 use Rattle.unshredder.specs.declared.readings.Reading.{Reading, out-Reading}
 
--- the reading says this of a node whose leaves begin at leaf `k`
+-- the reading says this of a node whose leaves begin at leaf `k`. `values` says that some value is read, its own or one
+-- inside it
 pub record IsRead (mask : ℕ → Bool) (s : Slot) (t : Kind) (k : ℕ) (r : Reading) : Type 0 where
   pub value : (out-Reading r).value ≡ is_any_read mask k (slot_width s)
   pub typed : (out-Reading r).typed ≡ is_any_read mask (k + slot_width s) (kind_width t)
   pub tested : (out-Reading r).tested ≡ is_tested mask k (group s t)
+  pub values : (out-Reading r).values ≡ (out-Reading r).value || list_any (λ x. (out-Reading x).values) (out-Reading r).inside
 
 -- where `there`, a list has one more item at its front, of which `P` holds; `More` holds of those after it
 abbrev pub Begins : (there : Bool) (P : Reading → Type 0) (More : List Reading → Type 0) → List Reading → Type 0

@@ -14,13 +14,18 @@ use crate::readings::Reading;
 use shred_schema::{Node, Part, Record, Typed};
 use vs_bytes::Text;
 
-/// Whether some value that is read is there, under each mask of which the reading is one.
+/// Whether some value that is read is there, under each mask of which the reading is one. Where no value is read, it isn't
+/// looked for.
 #[cycle(needing)]
+#[tactic(auto, using(crate::proofs::NoValueRead::no_value))]
 pub(crate) fn has_value(reading: &Reading, node: &Node, rec: &Record) -> bool
     requires shape { HasShape (group_of node.now) (rec_of rec.now) }
     requires reading { UnderSome (λ mask leaf. IsReading mask (group_of node.now) leaf reading.now) }
     ensures { (mask : ℕ → Bool) (leaf : ℕ) → IsReading mask (group_of node.now) leaf reading.now → result ≡ has_value mask (group_of node.now) leaf (rec_of rec.now) }
 {
+    if !reading.values {
+        return false;
+    }
     if reading.value && rec.value.is_some() {
         return true;
     }

@@ -1,10 +1,12 @@
 //! How the nodes of a column are read: what depends on the mask alone, worked out once for all rows.
 
 ghost use Rattle.std.specs.Prelude.{◌≡◌, ◌+◌, ◌<◌, ◌^◌, map, IfOk, OnOk};
+ghost use Rattle.std.specs.List.{list_any};
 ghost use Rattle.shred_schema.specs.Groups.{width, kind_width, groups_width, groups_from};
 ghost use Rattle.shred_schema.specs.Ranges.{reads, is_any_read};
 ghost use Rattle.shred_schema.specs.Views.{group_of, kind_of, named};
 ghost use Rattle.unshredder.specs.Readings.{IsReading, AreInside, AreReadings, IsFieldReading, IsPut};
+ghost use Rattle.unshredder.specs.declared.readings.Reading.{out-Reading};
 
 use crate::leaves::{is_any_read, is_tested};
 use crate::places::{Moves, moves_of};
@@ -26,6 +28,8 @@ pub struct Reading {
     pub(crate) typed: bool,
     // Whether it tells something that both parts are missing.
     pub(crate) tested: bool,
+    // Whether some value is read, its own or one inside it.
+    pub(crate) values: bool,
     // Moves that bring the members of the fields that are read into the order of their names.
     pub(crate) moves: Moves,
     // The readings of the fields of which some leaf is read, in order; or that of the element. A row passes over the
@@ -49,14 +53,24 @@ pub(crate) fn reading_of(
     let count = typed_width(&node.typed);
     let inside = inside_of(alloc, mask, &node.typed, leaf + first)?;
     let moves = typed_moves(alloc, &node.typed, inside.as_slice())?;
+    let value = is_any_read(mask, leaf, first);
+    let values = value || reads_values(inside.as_slice());
     Ok(Reading {
         place,
-        value: is_any_read(mask, leaf, first),
+        value,
         typed: is_any_read(mask, leaf + first, count),
         tested: is_tested(mask, leaf, node),
+        values,
         moves,
         inside,
     })
+}
+
+// Whether some of the readings reads a value.
+fn reads_values(inside: &[Reading]) -> bool
+    ensures { result ≡ list_any (λ reading. (out-Reading reading).values) inside.now }
+{
+    inside.iter().any(|reading| reading.values)
 }
 
 fn typed_moves(alloc: Global, typed: &Typed, inside: &[Reading]) -> Result<Moves, NoMemory> {

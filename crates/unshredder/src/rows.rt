@@ -21,9 +21,6 @@ use std::alloc::Global;
 use variant_meta::MetaRef;
 use vs_bytes::{NoMemory, Refusal, Rule};
 
-// The metadata of no names.
-const NO_NAMES: &[u8] = &[0x11, 0, 0];
-
 // The names of a row's metadata, where they are needed.
 fn names_needed(needed: bool, meta: &[u8]) -> Result<MetaRef<'_>, Rule>
     ensures { Gives names_of result (names_needed needed meta.now) }
@@ -31,7 +28,7 @@ fn names_needed(needed: bool, meta: &[u8]) -> Result<MetaRef<'_>, Rule>
     if needed {
         MetaRef::view(meta)
     } else {
-        MetaRef::view(NO_NAMES)
+        Ok(MetaRef::without_names())
     }
 }
 

@@ -1,4 +1,5 @@
 pub mod Kept
+pub mod NoNames
 pub mod Offsets
 pub mod Places
 pub mod ReadBack

@@ -1,6 +1,6 @@
 //! Metadata, read in place.
 
-ghost use Rattle.std.specs.Prelude.{◌≡◌, ◌<◌, true, length, IfOk, SomeIff};
+ghost use Rattle.std.specs.Prelude.{◌≡◌, ◌<◌, [], true, length, IfOk, SomeIff};
 ghost use Rattle.std.specs.List.{list_all};
 ghost use Rattle.std.specs.Str.{is_utf8};
 ghost use Rattle.vs_bytes.specs.Numbers.{IsPart};
@@ -23,8 +23,28 @@ pub struct MetaRef<'a> {
     ghost rising: { sorted ≡ true → names_rise (all_names held.layout.bytes.now) ≡ true },
 }
 
+// Metadata of no names: a version with sorted_strings set, their number, and the one offset.
+const NO_NAMES: &[u8] = &[0x11, 0, 0];
+
 impl<'a> MetaRef<'a> {
     ghost use Rattle.variant_meta.specs.MetaRefs.{names_of, bytes_of};
+
+    /// Metadata of no names, for values that cite none.
+    #[tactic(auto, using(crate::proofs::NoNames::width, crate::proofs::NoNames::count, crate::proofs::NoNames::start, crate::proofs::NoNames::steady, crate::proofs::NoNames::none, crate::proofs::NoNames::inside), unfolding(crate::specs::MetaRefs::names_of))]
+    pub fn without_names() -> MetaRef<'a>
+        ensures { names_of result ≡ [] }
+    {
+        let layout = Layout {
+            bytes: NO_NAMES,
+            width: 1,
+            count: 0,
+            start: 3,
+        };
+        MetaRef {
+            held: HeldNames { layout },
+            sorted: true,
+        }
+    }
 
     /// Views `bytes` as metadata, or names the first violation.
     #[tactic(auto, using(std::proofs::lemmas::Bool::Decides::nat_tests), unfolding(crate::specs::Metadata::names, crate::specs::MetaRefs::names_of, crate::specs::MetaRefs::bytes_of))]
