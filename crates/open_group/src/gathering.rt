@@ -79,7 +79,7 @@ pub struct OpenGroup {
     paths: Sequence<SchemaPath>,
     settings: Settings,
     gathered: Gathered,
-    // The names of the document that was tried last; none at first.
+    // The names and the metadata of the document that was tried last; none at first.
     names: KnownNames,
 }
 
@@ -124,7 +124,7 @@ impl OpenGroup {
             paths,
             settings,
             gathered: Gathered::new(alloc),
-            names: KnownNames::of(alloc, &Tree::Null)?,
+            names: KnownNames::of(alloc, &Tree::Null, settings.widths.offset)?,
         })
     }
 

@@ -17,10 +17,7 @@ use std::alloc::Global;
 use variant_write::{KnownNames, Widths};
 use vs_bytes::{Bytes, NoMemory};
 
-// For how many bytes of metadata there is room at first. A copy of what is written is kept, so that none of it is spare.
-const META_ROOM: usize = 256;
-
-// The record of a document: its names, and what stands in the column for it.
+// The record of a document: its metadata, and what stands in the column for it.
 fn present(
     alloc: Global,
     node: &Node,
@@ -33,19 +30,17 @@ fn present(
     requires widths { IsWidths widths }
     ensures { IfOk result (λ made. row_rec_of made ≡ shred_row (group_of node.now) (Some (view tree.now)) widths) }
 {
-    known.renew(alloc, tree)?;
+    known.renew(alloc, tree, widths.offset)?;
     let names = known.dictionary();
-    let mut meta = Vec::with_capacity(alloc, META_ROOM)?;
-    names.write(&mut meta, widths.offset)?;
     let rec = shred(alloc, node, tree, names, widths)?;
     Ok(RowRecord::Present {
-        meta: Bytes::from_slice(alloc, meta.as_slice())?,
+        meta: Bytes::from_slice(alloc, known.metadata())?,
         rec,
     })
 }
 
 /// The record of a row: a document, or none. `known` has the names of a document before it: most documents have the
-/// same, and then no dictionary is made.
+/// same, and then no dictionary is made and no metadata written.
 pub(crate) fn record_of(
     alloc: Global,
     node: &Node,

@@ -4,7 +4,8 @@ ghost use Rattle.std.specs.Prelude.{◌≡◌, ◌≤◌, ◌∷◌, ◌++◌, l
 ghost use Rattle.json_tree.specs.Json.{parts_of, fields_of};
 ghost use Rattle.json_tree.specs.Text.{text_of};
 ghost use Rattle.json_tree.specs.View.{view, seen};
-ghost use Rattle.variant_write.specs.Conditions.{HasNames, max_text_len};
+ghost use Rattle.variant_meta.specs.Written.{coded_names};
+ghost use Rattle.variant_write.specs.Conditions.{HasNames, max_text_len, max_width};
 ghost use Rattle.variant_write.specs.Dictionaries.{object_names, elements_names, fields_names, dictionary};
 
 use crate::collecting::{all_names, dictionary_of};
@@ -14,49 +15,71 @@ use std::marker::Model;
 use variant_meta::Dictionary;
 use vs_bytes::{NoMemory, Text};
 
-/// The dictionary of a value, with the names of all its objects as they stand there, for the next value: where that has
-/// the same names in the same order, it has the same dictionary.
+// For how many bytes of metadata there is room at first.
+const META_ROOM: usize = 256;
+
+/// The dictionary of a value and its metadata, with the names of all its objects as they stand there, for the next value:
+/// where that has the same names in the same order, it has the same dictionary and metadata.
 ///
-/// Contracts see it as the dictionary.
+/// Contracts see the dictionary and the metadata.
 #[derive(Drop)]
 pub struct KnownNames {
     names: Vec<Text>,
     dictionary: Dictionary,
+    // How many bytes a number of the metadata has at least.
+    least: u8,
+    metadata: Vec<u8>,
 }
 
 impl Model for KnownNames {
-    ghost use Rattle.std.specs.Prelude.{◌≡◌, List, ℕ};
-    ghost use Rattle.variant_write.specs.Dictionaries.{each_once};
+    ghost use Rattle.variant_write.specs.Known.{Named, IsKnown};
 
-    ghost Value = { List (List ℕ) };
+    ghost Value = { Named };
 
-    ghost view = { λ k. k.dictionary };
+    ghost view = { λ k. record { names = k.dictionary; metadata = k.metadata.items } };
 
-    ghost invariant = { λ k. k.dictionary ≡ each_once k.names.items };
+    ghost invariant = { λ k. IsKnown k.names.items k.dictionary k.least k.metadata.items };
 }
 
 impl KnownNames {
-    /// Those of a value whose canonical text has at most 16 MiB.
-    pub fn of(alloc: Global, tree: &Tree) -> Result<KnownNames, NoMemory>
+    /// Those of a value whose canonical text has at most 16 MiB. A number of the metadata has `least` bytes, or as many as
+    /// it needs.
+    pub fn of(alloc: Global, tree: &Tree, least: u8) -> Result<KnownNames, NoMemory>
         requires small { length (text_of (view tree.now)) ≤ max_text_len }
-        ensures { IfOk result (λ known. known ≡ dictionary (view tree.now)) }
+        requires least { 1 ≤ least }
+        requires most { least ≤ max_width }
+        ensures names { IfOk result (λ known. known.names ≡ dictionary (view tree.now)) }
+        ensures metadata { IfOk result (λ known. known.metadata ≡ coded_names least (dictionary (view tree.now))) }
     {
+        let names = all_names(alloc, tree)?;
+        let dictionary = dictionary_of(alloc, tree)?;
+        let mut metadata = Vec::with_capacity(alloc, META_ROOM)?;
+        dictionary.write(&mut metadata, least)?;
         Ok(KnownNames {
-            names: all_names(alloc, tree)?,
-            dictionary: dictionary_of(alloc, tree)?,
+            names,
+            dictionary,
+            least,
+            metadata,
         })
     }
 
     /// Their dictionary.
     pub fn dictionary(&self) -> &Dictionary
-        ensures { result.now ≡ self.now }
+        ensures { result.now ≡ self.now.names }
     {
         &self.dictionary
     }
 
+    /// The bytes of their metadata.
+    pub fn metadata(&self) -> &[u8]
+        ensures { result.now ≡ self.now.metadata }
+    {
+        self.metadata.as_slice()
+    }
+
     // Whether a value has these names in this order.
     fn stand_in(&self, tree: &Tree) -> bool
-        ensures { IsTrue result → self.now ≡ dictionary (view tree.now) }
+        ensures { IsTrue result → self.now.names ≡ dictionary (view tree.now) }
     {
         match after(self.names.as_slice(), tree) {
             Some(rest) => rest.is_empty(),
@@ -65,16 +88,22 @@ impl KnownNames {
     }
 
     /// Turns them into those of a value whose canonical text has at most 16 MiB. After an `Err` they are as before.
-    pub fn renew(&mut self, alloc: Global, tree: &Tree) -> Result<(), NoMemory>
+    #[tactic(auto, using(crate::proofs::Known::has_names))]
+    pub fn renew(&mut self, alloc: Global, tree: &Tree, least: u8) -> Result<(), NoMemory>
         requires small { length (text_of (view tree.now)) ≤ max_text_len }
-        ensures names { OnOk result (self.new ≡ dictionary (view tree.now)) }
-        ensures has { OnOk result (HasNames self.new (view tree.now)) }
+        requires least { 1 ≤ least }
+        requires most { least ≤ max_width }
+        ensures names { OnOk result (self.new.names ≡ dictionary (view tree.now)) }
+        ensures metadata { OnOk result (self.new.metadata ≡ coded_names least (dictionary (view tree.now))) }
+        ensures has { OnOk result (HasNames self.new.names (view tree.now)) }
         ensures err { OnErr result (self.new ≡ self.old) }
     {
-        if self.stand_in(tree) {
-            return Ok(());
+        if self.least == least {
+            if self.stand_in(tree) {
+                return Ok(());
+            }
         }
-        *self = KnownNames::of(alloc, tree)?;
+        *self = KnownNames::of(alloc, tree, least)?;
         Ok(())
     }
 }

@@ -7,7 +7,7 @@
 //! | `composer` | `Composer`: objects and arrays of values that are there already, written |
 //! | `composing` | the same for widths that are known only at run time |
 //! | `collecting` | `dictionary_of`: the names of all objects in a value |
-//! | `known_names` | `KnownNames`: a dictionary that is kept for the next value |
+//! | `known_names` | `KnownNames`: a dictionary and its metadata, kept for the next value |
 //! | `field_ids` | the ids of an object's fields |
 //! | `encoding` | `encode`: the bytes of a value |
 //! | `choosing` | `encode_members`: the bytes of some members of an object |
