@@ -104,7 +104,7 @@ module _ (p q : ℕ → Bool) where
 
   module _ (names : List (List ℕ)) where
     mutual
-      seen_alike : (n : Group) (k above : ℕ) (x : Rec) → Agree p q k (width n) → seen p names n k above x ≡ seen q names n k above x
+      pub seen_alike : (n : Group) (k above : ℕ) (x : Rec) → Agree p q k (width n) → seen p names n k above x ≡ seen q names n k above x
       seen_alike (group s t) k above (rec v part) h =
           let left = any_same k (slot_width s) (on_left k (slot_width s) (kind_width t) h) in
           let right = any_same (k + slot_width s) (kind_width t) (on_right k (slot_width s) (kind_width t) h) in

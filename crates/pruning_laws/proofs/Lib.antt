@@ -1,0 +1,17 @@
+pub mod Chains
+pub mod GroupsKept
+pub mod GroupsShown
+pub mod Keeps
+pub mod KeepsAnswers
+pub mod KeepsFields
+pub mod KeepsLists
+pub mod KeepsMatches
+pub mod KeepsNames
+pub mod KeepsObjects
+pub mod KeepsOthers
+pub mod KeepsSorted
+pub mod KeepsValues
+pub mod MoreRead
+pub mod RowsKept
+pub mod RowsStay
+pub mod Stays
