@@ -7,7 +7,7 @@ use Rattle.thrift_footer.specs.declared.opening.OpenFault.TheVariants as fault
 use Rattle.command_parsing.specs.Commands.{FileQuery}
 use Rattle.command_words.specs.Check.{CheckGiven}
 use Rattle.store_read.specs.Ranges.{AsksFirst}
-use Rattle.store_file.specs.FileCalls.{groups_in, plan_of, AsksPlan}
+use Rattle.store_file.specs.FileCalls.{query_plan, check_plan, AsksPlan}
 use Rattle.store_file.specs.declared.file_faults.QueryFault.{QueryFault}
 use Rattle.store_file.specs.declared.file_faults.QueryFault.TheVariants as stop
 use Rattle.store_file.specs.declared.store_file.StoreFile.{StoreFile}
@@ -39,15 +39,11 @@ at_plan broken plan s t (Err stop.ReadFault) same g = ap (λ (r : Storage). r.fi
 at_plan broken plan s t (Err stop.WriteFault) same g = same g
 at_plan broken plan s t (Err stop.NoMemory) same g = at_first plan s t g
 
--- what is read of all groups
-abbrev plan_in : StoreFile → List ByteRange
-plan_in f = plan_of f (groups_in f)
-
 at_answered : (query : FileQuery) (done : Result (Unit {0}) QueryFault) (a b : Readout) → IsAnswered query done a b → b.shelf.files ≡ a.shelf.files
-at_answered query done a b w = at_plan (AsksFirst w.between b.shelf (plan_in w.file)) (plan_in w.file) w.between b.shelf done (at_first (plan_in w.file) w.between b.shelf) w.asks ∙ at_begun query.file query.column w.file a.shelf w.between w.begun
+at_answered query done a b w = at_plan (AsksFirst w.between b.shelf (query_plan w.file query.asked)) (query_plan w.file query.asked) w.between b.shelf done (at_first (query_plan w.file query.asked) w.between b.shelf) w.asks ∙ at_begun query.file query.column w.file a.shelf w.between w.begun
 
 at_judged : (check : CheckGiven) (done : Result (ℕ × ℕ) QueryFault) (s t : Storage) → IsJudged check done s t → t.files ≡ s.files
-at_judged check done s t w = at_plan ⊥ (plan_in w.file) w.between t done (λ none. absurd none) w.asks ∙ at_begun check.file check.column w.file s w.between w.begun
+at_judged check done s t w = at_plan ⊥ (check_plan w.file) w.between t done (λ none. absurd none) w.asks ∙ at_begun check.file check.column w.file s w.between w.begun
 
 pub files_after_query : (query : FileQuery) (a b : Readout) (done : Result (Unit {0}) FileError) → AnswersQuery query a b done → b.shelf.files ≡ a.shelf.files
 files_after_query query a b (Ok u) h = at_answered query (Ok u) a b h

@@ -18,7 +18,7 @@ pub record IsAnswered (query : FileQuery) (done : Result (Unit {0}) QueryFault) 
   pub file : StoreFile
   pub between : Storage
   pub begun : IsBegun query.file query.column file before.shelf between
-  pub asks : AsksGroups file between after.shelf done
+  pub asks : AsksGroups file query.asked between after.shelf done
   pub answers : (bytes : List ℕ) → IsFile before.shelf.files query.file bytes → Answers file query.asked bytes between after.shelf before.out.bytes after.out.bytes done
   pub counts : CountsWrites before.out after.out done
 

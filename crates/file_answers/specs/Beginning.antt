@@ -37,7 +37,7 @@ pub record IsRefused (name column : List ℕ) (violation : Violation) (before af
 abbrev pub IsOf : List ℕ → List ℕ → StoreFile → Type 0
 IsOf column bytes file = beginning bytes column ≡ Ok (file.opened, shown file.column)
 
--- the file was begun: opening asked for its ranges, and nothing else changed. All its leaves are read
+-- the file was begun: opening asked for its ranges, and nothing else changed
 pub record IsBegun (name column : List ℕ) (file : StoreFile) (before after : Storage) : Type 0 where
   pub asks : opening.Asks before after name (opening_ranges name) (Ok file)
   pub of_file : (bytes : List ℕ) → IsFile before.files name bytes → IsOf column bytes file

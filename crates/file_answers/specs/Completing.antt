@@ -1,4 +1,4 @@
--- When a call on a file has nothing to refuse: the file is there, and it violates no rule.
+-- When a call on a file has nothing to refuse: the file is there, and what the call reads of it violates no rule.
 use Rattle.std.specs.Prelude.{◌≡◌, ◌⊎◌, ℕ, List, Some, Result, Ok, Err}
 use Rattle.thrift_footer.specs.Opening.{IsFile}
 use Rattle.command_parsing.specs.Commands.{FileQuery}
@@ -11,7 +11,7 @@ use Rattle.file_answers.specs.Beginning.{Readout, IsOf, IsWrongAtFirst}
 use Rattle.file_answers.specs.declared.file_error.FileError.{FileError}
 use Rattle.file_answers.specs.declared.file_error.FileError.TheVariants.{NoMemory}
 
--- the first violation that a query meets in the groups of a file
+-- the first violation that a query meets in the groups of a file, of which it reads the leaves that it needs
 pub record MeetsViolation (query : FileQuery) (bytes : List ℕ) (violation : Violation) : Type 0 where
   pub file : StoreFile
   pub usable : IsUsable file

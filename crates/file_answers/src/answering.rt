@@ -24,8 +24,8 @@ fn query_end(done: Result<(), QueryFault>) -> Result<(), FileError>
 
 /// Prints the lines of a query over the rows of a file's column, group by group.
 ///
-/// However it ends, no file changes. Where a group violates a rule, or a read in it fails, the lines of
-/// the groups before it are printed, and none of its own.
+/// Of the column the leaves alone are read that the query needs. However it ends, no file changes. Where what is read of a
+/// group violates a rule, or a read in it fails, the lines of the groups before it are printed, and none of its own.
 pub fn answer_query<S: Shelf, O: Sink>(
     alloc: Global,
     asked: QueryCommand,

@@ -13,7 +13,7 @@ pub enum FileError {
     /// There is no file of the name.
     #[error("no such file")]
     Absent,
-    /// What the file violates first.
+    /// What the file violates first in what the call reads of it.
     #[error("refused: {0:?}")]
     Violated(Violation),
     /// A read failed.

@@ -4,6 +4,8 @@ pub mod Starts
 pub mod SeenAlike
 -- the rows of a valid file, as calls see them
 pub mod ValidRows
+-- the lines of a query over a file whose rows are seen to their end
+pub mod PrunedFiles
 -- calls on valid files
 pub mod ValidFiles
 -- the first violation of a file

@@ -14,13 +14,12 @@ use Rattle.store_file.specs.SeenGroups.{Seen, all_found}
 use Rattle.store_file.specs.FileCalls.{Counts, groups_in, rows_seen, lines_seen}
 use Rattle.store_file.specs.declared.file_faults.Violation.{Violation}
 use Rattle.store_file.specs.declared.store_file.StoreFile.{StoreFile}
-use Rattle.store_file.proofs.RowLines.{lines_answer}
 use Rattle.file_answers.specs.Answering.{AnswersQuery}
 use Rattle.file_answers.specs.Beginning.{Readout}
 use Rattle.file_answers.specs.Completing.{IsAnswerable, IsJudgeable, QueryViolates, CheckViolates}
 use Rattle.file_answers.specs.Judging.{JudgesFile, IsWhole, count_line}
 use Rattle.file_laws.specs.Begun.{IsBegunFrom, CanBegin}
-use Rattle.file_laws.proofs.SeenAlike.{answered}
+use Rattle.file_laws.proofs.PrunedFiles.{lines_kept}
 use Rattle.file_laws.proofs.Starts.{Start, one_start, valid_start}
 use Rattle.file_laws.proofs.ValidRows.{valid_rows}
 
@@ -28,7 +27,7 @@ pub valid_begins : (column bytes : List ℕ) (rows : List (Option Json)) → IsV
 valid_begins column bytes rows v = record { opened = v.opened; view = v.view; begins = valid_start column bytes rows v }
 
 pub valid_lines : (column bytes : List ℕ) (rows : List (Option Json)) (asked : Asked) (f : StoreFile) → IsValid bytes column rows → IsBegunFrom column bytes f → lines_seen f asked bytes ≡ all_found (answer_of asked rows)
-valid_lines column bytes rows asked f v b = lines_answer f asked bytes ∙ ap (answered asked) (valid_rows column bytes rows f v b)
+valid_lines column bytes rows asked f v b = lines_kept f asked bytes b.usable rows (valid_rows column bytes rows f v b)
 
 pub valid_groups : (column bytes : List ℕ) (rows : List (Option Json)) (f : StoreFile) (v : IsValid bytes column rows) → IsBegunFrom column bytes f → length (groups_in f) ≡ length v.opened.meta.row_groups
 valid_groups column bytes rows f v b = ap (λ (s : Start). length s.0.meta.row_groups) (sym (one_start column bytes (v.opened, v.view) f b (valid_start column bytes rows v)))
@@ -43,7 +42,7 @@ not_begun column bytes rows rule v wrong =
     let both : ◌≡◌ {A = Result Start Rule} (Ok (v.opened, v.view)) (Err rule) = sym (valid_start column bytes rows v) ∙ wrong in
     cc
 
-not_met : {A : Type 0} (seen : Seen A) (found : List A) (violation : Violation) → seen ≡ all_found found → seen.stop ≡ Some violation → ⊥
+pub not_met : {A : Type 0} (seen : Seen A) (found : List A) (violation : Violation) → seen ≡ all_found found → seen.stop ≡ Some violation → ⊥
 not_met {A = A} seen found violation all met =
     let both : ◌≡◌ {A = Option Violation} None (Some violation) = sym (ap (λ (s : Seen A). s.stop) all) ∙ met in
     cc

@@ -45,7 +45,7 @@ module _ (mask : ℕ → Bool) (optional : Bool) (n : Group) (end : ℕ) (column
 reads_each : (mask : List Bool) (count j : ℕ) → mask ≡ replicate count true → j < count → reads mask j ≡ true
 reads_each mask count j is inside = subst (λ (m : List Bool). reads m j ≡ true) (sym is) (get_or-replicate count j true false inside)
 
-reads_all : (f : StoreFile) → IsUsable f → ReadsAll (reads f.mask) (shown f.column).node
+pub reads_all : (f : StoreFile) → IsUsable f → ReadsAll (reads f.mask) (shown f.column).node
 reads_all f usable = λ j among.
     reads_each f.mask (length f.column.leaves) j usable.reads (omega (arith, usable.can.leaves, among_high j 0 (1 + width (shown f.column).node) among))
 

@@ -6,7 +6,7 @@ use Rattle.store_file.specs.Beginning.{beginning, IsUsable}
 use Rattle.store_file.specs.declared.store_file.StoreFile.{StoreFile}
 use Rattle.file_answers.specs.Beginning.{IsOf}
 
--- the file has these bytes, and the column is that of the name; all its leaves are read
+-- the file has these bytes, and the column is that of the name
 pub record IsBegunFrom (column bytes : List ℕ) (f : StoreFile) : Type 0 where
   pub usable : IsUsable f
   pub is_of : IsOf column bytes f

@@ -1,6 +1,6 @@
 //! Each law is the contract of an empty function.
 
-ghost use Rattle.std.specs.Prelude.{◌≡◌, ◌⊎◌, ℕ, true, List, length, Option, Some, Result, Ok, Err};
+ghost use Rattle.std.specs.Prelude.{◌≡◌, ◌⊎◌, ◌↔◌, ℕ, true, List, length, Option, Some, Result, Ok, Err};
 ghost use Rattle.std.specs.Io.KnownBytes.{Appends};
 ghost use Rattle.std.specs.List.{AllByRecursion};
 ghost use Rattle.json_tree.specs.Json.{Json};
@@ -18,8 +18,10 @@ ghost use Rattle.store_write.specs.Made.{column_name, made};
 ghost use Rattle.thrift_footer.specs.Opening.{IsFile};
 ghost use Rattle.reading_laws.specs.Documents.{IsDocument};
 ghost use Rattle.store_laws.specs.ValidFiles.{IsValid};
+ghost use Rattle.store_file.specs.Beginning.{IsUsable};
+ghost use Rattle.store_file.specs.Masks.{needed};
 ghost use Rattle.store_file.specs.SeenGroups.{all_found};
-ghost use Rattle.store_file.specs.FileCalls.{Counts, groups_in, plan_of, rows_seen, lines_seen};
+ghost use Rattle.store_file.specs.FileCalls.{Counts, groups_in, query_plan, check_plan, rows_seen, lines_seen};
 ghost use Rattle.store_file.specs.declared.file_faults.Violation.{Violation};
 ghost use Rattle.store_file.specs.declared.store_file.StoreFile.{StoreFile};
 ghost use Rattle.file_answers.specs.Answering.{AnswersQuery};
@@ -41,22 +43,27 @@ ghost use Rattle.file_laws.specs.Begun.{IsBegunFrom, CanBegin};
 ghost use Rattle.file_laws.specs.Loaded.{CanLoad, IsLoaded, FollowsLoad, OfDocuments, GainTheSame, HoldsAll};
 
 /// What is seen of a file goes by its bytes and the name of its column alone: files that were begun from the same bytes, at
-/// the column of one name, have the same groups, rows and lines, and where they have one name the same ranges are asked
-/// for.
+/// the column of one name, have the same groups, rows and lines, and where they have one name a query asks for the same
+/// ranges of them, and so does a check.
 pub fn bytes_decide_what_is_seen()
     ensures groups { (column bytes : List ℕ) (f g : StoreFile) → IsBegunFrom column bytes f → IsBegunFrom column bytes g → groups_in f ≡ groups_in g }
     ensures rows { (column bytes : List ℕ) (f g : StoreFile) → IsBegunFrom column bytes f → IsBegunFrom column bytes g → rows_seen f bytes ≡ rows_seen g bytes }
     ensures lines { (column bytes : List ℕ) (asked : Asked) (f g : StoreFile) → IsBegunFrom column bytes f → IsBegunFrom column bytes g → lines_seen f asked bytes ≡ lines_seen g asked bytes }
-    ensures plan { (column bytes : List ℕ) (f g : StoreFile) → IsBegunFrom column bytes f → IsBegunFrom column bytes g → f.name ≡ g.name → plan_of f (groups_in f) ≡ plan_of g (groups_in g) }
+    ensures query { (column bytes : List ℕ) (asked : Asked) (f g : StoreFile) → IsBegunFrom column bytes f → IsBegunFrom column bytes g → f.name ≡ g.name → query_plan f asked ≡ query_plan g asked }
+    ensures check { (column bytes : List ℕ) (f g : StoreFile) → IsBegunFrom column bytes f → IsBegunFrom column bytes g → f.name ≡ g.name → check_plan f ≡ check_plan g }
 {}
 
-/// A file has one first violation at a column at most, and a query and a check of that column find the same. A call that
-/// answers a violation answers it, and no call on such a file is done: where no device fails it answers the violation, or
-/// has no memory.
+/// A check finds one first violation of a file at a column at most, and so does a query, which judges of the column what it
+/// reads. Where a query finds one, so does a check, though not always the same. They find the same where the file doesn't
+/// open or lacks the column, and where the query reads all leaves of the column.
+/// A call that answers a violation answers this one, and no call on such a file is done: where no device fails it answers
+/// the violation, or has no memory.
 pub fn violations_are_one()
     ensures query_one { (query : FileQuery) (bytes : List ℕ) (v w : Violation) → QueryViolates query bytes v → QueryViolates query bytes w → v ≡ w }
     ensures check_one { (check : CheckGiven) (bytes : List ℕ) (v w : Violation) → CheckViolates check bytes v → CheckViolates check bytes w → v ≡ w }
-    ensures alike { (query : FileQuery) (check : CheckGiven) (bytes : List ℕ) (v : Violation) → query.column ≡ check.column → (QueryViolates query bytes v → CheckViolates check bytes v) × (CheckViolates check bytes v → QueryViolates query bytes v) }
+    ensures check_finds { (query : FileQuery) (check : CheckGiven) (bytes : List ℕ) (v : Violation) → query.column ≡ check.column → QueryViolates query bytes v → (w : Violation) × CheckViolates check bytes w }
+    ensures unbegun { (query : FileQuery) (check : CheckGiven) (bytes : List ℕ) (v : Violation) → query.column ≡ check.column → (CanBegin query.column bytes → ⊥) → (QueryViolates query bytes v ↔ CheckViolates check bytes v) }
+    ensures all_leaves { (query : FileQuery) (check : CheckGiven) (bytes : List ℕ) (f : StoreFile) (v : Violation) → query.column ≡ check.column → IsBegunFrom query.column bytes f → needed f query.asked ≡ f.mask → (QueryViolates query bytes v ↔ CheckViolates check bytes v) }
     ensures query_names { (query : FileQuery) (before after : Readout) (bytes : List ℕ) (v : Violation) → IsFile before.shelf.files query.file bytes → AnswersQuery query before after (Err (Violated v)) → QueryViolates query bytes v }
     ensures check_names { (check : CheckGiven) (before after : Readout) (bytes : List ℕ) (v : Violation) → IsFile before.shelf.files check.file bytes → JudgesFile check before after (Err (Violated v)) → CheckViolates check bytes v }
     ensures query_not_done { (query : FileQuery) (before after : Readout) (bytes : List ℕ) (v : Violation) → IsFile before.shelf.files query.file bytes → QueryViolates query bytes v → AnswersQuery query before after (Ok tt) → ⊥ }
@@ -67,10 +74,12 @@ pub fn violations_are_one()
 
 /// A valid file can be begun, and its rows are seen to their end. A query over it has nothing to refuse, nor has a check,
 /// and where they are done they print the lines of these rows, and how many there are.
+/// Of any file whose rows are seen to their end, as where a check finds no violation, a query sees the lines of all rows.
 pub fn valid_files_are_seen()
     ensures begins { (column bytes : List ℕ) (rows : List (Option Json)) → IsValid bytes column rows → CanBegin column bytes }
     ensures rows { (column bytes : List ℕ) (rows : List (Option Json)) (f : StoreFile) → IsValid bytes column rows → IsBegunFrom column bytes f → rows_seen f bytes ≡ all_found rows }
     ensures lines { (column bytes : List ℕ) (rows : List (Option Json)) (asked : Asked) (f : StoreFile) → IsValid bytes column rows → IsBegunFrom column bytes f → lines_seen f asked bytes ≡ all_found (answer_of asked rows) }
+    ensures as_rows { (f : StoreFile) (asked : Asked) (bytes : List ℕ) → IsUsable f → (rows : List (Option Json)) → rows_seen f bytes ≡ all_found rows → lines_seen f asked bytes ≡ all_found (answer_of asked rows) }
     ensures counts { (column bytes : List ℕ) (rows : List (Option Json)) (f : StoreFile) (valid : IsValid bytes column rows) → IsBegunFrom column bytes f → Counts f bytes (length valid.opened.meta.row_groups) (length rows) }
     ensures answerable { (query : FileQuery) (before : Readout) (bytes : List ℕ) (rows : List (Option Json)) → IsFile before.shelf.files query.file bytes → IsValid bytes query.column rows → IsAnswerable query before }
     ensures judgeable { (check : CheckGiven) (before : Readout) (bytes : List ℕ) (rows : List (Option Json)) → IsFile before.shelf.files check.file bytes → IsValid bytes check.column rows → IsJudgeable check before }

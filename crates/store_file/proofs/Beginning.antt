@@ -1,5 +1,5 @@
--- The mask of a column, and the beginning of a file.
-use Rattle.std.proofs.Common.{◌≡◌, ◌∙◌, refl, sym, ap, subst, ℕ, suc, ◌+◌, Bool, true, false, List, length, replicate, Result, Ok, Err, arith}
+-- The masks of a column, and the beginning of a file.
+use Rattle.std.proofs.Common.{◌≡◌, ◌∙◌, refl, sym, ap, subst, ℕ, suc, ◌+◌, Bool, true, false, not, ◌&&◌, List, length, replicate, Result, Ok, Err, arith}
 use Rattle.std.proofs.lemmas.List.{length-replicate}
 use Rattle.vs_bytes.specs.Outcome.{◌>>=◌, Makes}
 use Rattle.vs_bytes.specs.declared.refused.Refused.{Refused}
@@ -19,15 +19,18 @@ use Rattle.file_columns.specs.declared.columns.FileColumn.{FileColumn}
 use Rattle.thrift_footer.specs.Opening.{opening, Judges, Asks}
 use Rattle.thrift_footer.specs.declared.opening.Opened.{Opened}
 use Rattle.store_read.specs.GroupRead.{CanRead}
-use Rattle.store_file.specs.Needs.{needs}
+use Rattle.query_tree.specs.Asked.{Asked}
+use Rattle.chunk_pruning.proofs.Listed.{needed_are_read, needs_length}
+use Rattle.store_file.specs.Masks.{full_mask, needed}
 use Rattle.thrift_footer.specs.declared.opening.OpenFault.{OpenFault}
 use Rattle.thrift_footer.specs.declared.opening.OpenFault.TheVariants as fault
-use Rattle.store_file.specs.Beginning.{column_in, beginning, Begins}
+use Rattle.store_file.specs.Beginning.{column_in, beginning, Begins, IsUsable}
 
-some_read : (mask : List Bool) (n : ℕ) → mask ≡ replicate (suc n) true → none_read (reads mask) 0 (suc n) ≡ false
-some_read mask n is = subst (λ (m : List Bool). none_read (reads m) 0 (suc n) ≡ false) (sym is) refl
+-- leaf 0 is read
+some_read : (mask : ℕ → Bool) (count n : ℕ) → count ≡ suc n → mask 0 ≡ true → none_read mask 0 count ≡ false
+some_read mask count n is read = ap (none_read mask 0) is ∙ ap (λ (b : Bool). not b && none_read mask 1 n) read
 
-pub can_read : (column : FileColumn) (mask : List Bool) → IsWellFormed (group_of column.column.node) → length column.leaves ≡ 1 + width (group_of column.column.node) → length column.places ≡ 1 + width (group_of column.column.node) → mask ≡ needs column → CanRead column mask
+pub can_read : (column : FileColumn) (mask : List Bool) → IsWellFormed (group_of column.column.node) → length column.leaves ≡ 1 + width (group_of column.column.node) → length column.places ≡ 1 + width (group_of column.column.node) → mask ≡ full_mask column → CanRead column mask
 can_read column mask well leaves places is =
     let count : 1 + width (group_of column.column.node) ≡ suc (width (group_of column.column.node)) = omega arith in
     let whole : mask ≡ replicate (suc (width (group_of column.column.node))) true = is ∙ ap (λ (n : ℕ). replicate n true) (leaves ∙ count) in
@@ -36,7 +39,19 @@ can_read column mask well leaves places is =
       leaves = leaves;
       places = places;
       told = ap length is ∙ (length-replicate (length column.leaves) true ∙ leaves);
-      some = ap (none_read (reads mask) 0) count ∙ some_read mask (width (group_of column.column.node)) whole;
+      some = some_read (reads mask) (1 + width (group_of column.column.node)) (width (group_of column.column.node)) count (ap (λ (m : List Bool). reads m 0) whole);
+    }
+
+-- what a query needs can be read
+pub can_need : (f : StoreFile) (asked : Asked) (mask : List Bool) → IsUsable f → mask ≡ needed f asked → CanRead f.column mask
+can_need f asked mask usable is =
+    let n = group_of f.column.column.node in
+    record {
+      well = usable.can.well;
+      leaves = usable.can.leaves;
+      places = usable.can.places;
+      told = ap length is ∙ needs_length asked n;
+      some = some_read (reads mask) (1 + width n) (width n) (omega arith) (ap (λ (m : List Bool). reads m 0) is ∙ needed_are_read asked n 0 refl);
     }
 
 pub begun : (file name : List ℕ) (opened : Opened) (found : Result ColumnView Rule) → opening file ≡ Ok opened → column_in name opened ≡ found → beginning file name ≡ (found >>= λ view. Ok (opened, view))

@@ -21,42 +21,42 @@ use Rattle.store_file.proofs.Walks.{AskedGroups, asked_none, asked_more, asked_f
 -- the first k groups have so many rows
 pub record CountsFirst (f : StoreFile) (file : List ℕ) (k rows : ℕ) : Type 0 where
   pub all : List (Option Json)
-  pub valid : seen_of (group_rows f file) 0 (take k (groups_in f)) ≡ all_found all
+  pub valid : seen_of (group_rows f f.mask file) 0 (take k (groups_in f)) ≡ all_found all
   pub counted : rows ≡ length all
 
 pub record Judged (f : StoreFile) (before now : Storage) (k rows : ℕ) : Type 0 where
-  pub asks : AskedGroups f before now k
+  pub asks : AskedGroups f f.mask before now k
   pub counts : OfFile before f.name (λ file. CountsFirst f file k rows)
 
 pub judged_none : (f : StoreFile) (s : Storage) → Judged f s s 0 0
 unfolding seen_of
 judged_none f s = record {
-  asks = asked_none f s;
+  asks = asked_none f f.mask s;
   counts = λ file known. record { all = []; valid = refl; counted = refl };
 }
 
 pub judged_more : (f : StoreFile) (before now next : Storage) (k rows count sum : ℕ) (g : GroupMeta) → slice_get (groups_in f) k ≡ Some g → Judged f before now k rows →
-    Gives now next f.name (chunks_in f g) (λ file. HasRows (group_rows f file k g) count) → sum ≡ rows + count → Judged f before next (k + 1) sum
+    Gives now next f.name (chunks_in f f.mask g) (λ file. HasRows (group_rows f f.mask file k g) count) → sum ≡ rows + count → Judged f before next (k + 1) sum
 judged_more f before now next k rows count sum g at judged gives is = record {
-  asks = asked_more f before now next k g at judged.asks gives.asks;
+  asks = asked_more f f.mask before now next k g at judged.asks gives.asks;
   counts = λ file known.
       let done = judged.counts file known in
-      let here = of_before f before now k (λ file. HasRows (group_rows f file k g) count) judged.asks gives.of_file file known in
+      let here = of_before f f.mask before now k (λ file. HasRows (group_rows f f.mask file k g) count) judged.asks gives.of_file file known in
       record {
         all = done.all ++ here.rows;
-        valid = seen_more (group_rows f file) (groups_in f) k g done.all here.rows at done.valid here.valid;
+        valid = seen_more (group_rows f f.mask file) (groups_in f) k g done.all here.rows at done.valid here.valid;
         counted = omega (arith, is, done.counted, here.counted, length-append done.all here.rows);
       };
 }
 
 pub judged_all : (f : StoreFile) (before now : Storage) (k rows groups : ℕ) → Judged f before now k rows → length (groups_in f) ≤ k → groups ≡ length (groups_in f) → Checks f before now (Ok (groups, rows))
 judged_all f before now k rows groups judged past is = record {
-  asks = asked_all f before now k judged.asks past;
+  asks = asked_all f f.mask before now k judged.asks past;
   judges = λ file known.
       let done = judged.counts file known in
       record {
         all = done.all;
-        valid = ap (seen_of (group_rows f file) 0) (sym (all_taken (groups_in f) k judged.asks.within past)) ∙ done.valid;
+        valid = ap (seen_of (group_rows f f.mask file) 0) (sym (all_taken (groups_in f) k judged.asks.within past)) ∙ done.valid;
         group_count = is;
         row_count = done.counted;
       };
@@ -64,26 +64,26 @@ judged_all f before now k rows groups judged past is = record {
 
 -- no memory
 pub judged_lost : (f : StoreFile) (before now next : Storage) (k rows count : ℕ) (g : GroupMeta) → slice_get (groups_in f) k ≡ Some g → Judged f before now k rows →
-    Gives now next f.name (chunks_in f g) (λ file. HasRows (group_rows f file k g) count) → Checks f before next (Err fault.NoMemory)
+    Gives now next f.name (chunks_in f f.mask g) (λ file. HasRows (group_rows f f.mask file k g) count) → Checks f before next (Err fault.NoMemory)
 judged_lost f before now next k rows count g at judged gives = record {
-  asks = asked_first f before now next k g at judged.asks (asks_all now next (chunks_in f g) gives.asks);
+  asks = asked_first f f.mask before now next k g at judged.asks (asks_all now next (chunks_in f f.mask g) gives.asks);
   judges = λ file known. tt;
 }
 
 stops_at : (f : StoreFile) (before now next : Storage) (k rows : ℕ) (g : GroupMeta) (why : ReadStop Violation) → slice_get (groups_in f) k ≡ Some g → Judged f before now k rows →
     CountsGroup f now next k g (Err why) → Checks f before next (Err (fault_of why))
 stops_at f before now next k rows g (stop.Violated violation) at judged stops = record {
-  asks = asked_first f before now next k g at judged.asks stops.asks;
+  asks = asked_first f f.mask before now next k g at judged.asks stops.asks;
   judges = λ file known.
       let done = judged.counts file known in
-      ap (λ (s : Seen (Option Json)). s.stop) (seen_stops (group_rows f file) (groups_in f) k g done.all violation at done.valid (of_before f before now k (λ file. group_rows f file k g ≡ Err violation) judged.asks stops.of_file file known));
+      ap (λ (s : Seen (Option Json)). s.stop) (seen_stops (group_rows f f.mask file) (groups_in f) k g done.all violation at done.valid (of_before f f.mask before now k (λ file. group_rows f f.mask file k g ≡ Err violation) judged.asks stops.of_file file known));
 }
 stops_at f before now next k rows g stop.Failed at judged stops = record {
-  asks = asked_fails f before now next k g at judged.asks stops;
+  asks = asked_fails f f.mask before now next k g at judged.asks stops;
   judges = λ file known. tt;
 }
 stops_at f before now next k rows g stop.NoMemory at judged stops = record {
-  asks = asked_first f before now next k g at judged.asks stops;
+  asks = asked_first f f.mask before now next k g at judged.asks stops;
   judges = λ file known. tt;
 }
 

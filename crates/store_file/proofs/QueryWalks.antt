@@ -17,6 +17,7 @@ use Rattle.store_read.specs.Ranges.{OfFile, Gives, ReadsFile, FailsAt}
 use Rattle.store_read.specs.declared.read_stop.ReadStop.{ReadStop}
 use Rattle.store_read.specs.declared.read_stop.ReadStop.TheVariants as stop
 use Rattle.store_read.proofs.Reading.{asks_all}
+use Rattle.store_file.specs.Masks.{needed}
 use Rattle.store_file.specs.Places.{fault_of, write_fault}
 use Rattle.store_file.specs.SeenGroups.{Seen, seen_of}
 use Rattle.store_file.specs.FileCalls.{groups_in, group_lines, lines_seen, chunks_in, PrintsFirst, Queries}
@@ -28,27 +29,27 @@ use Rattle.store_file.proofs.Walks.{AskedGroups, asked_none, asked_more, asked_f
 
 -- the lines of the first k groups were written, and their chunks were asked for
 pub record Wrote (f : StoreFile) (asked : Asked) (before now : Storage) (old new : Device) (k : ℕ) : Type 0 where
-  pub asks : AskedGroups f before now k
+  pub asks : AskedGroups f (needed f asked) before now k
   pub prints : OfFile before f.name (λ file. PrintsFirst f asked file k old.bytes new.bytes)
   pub calm : IsCalm old new
 
 pub wrote_none : (f : StoreFile) (asked : Asked) (s : Storage) (d : Device) → Wrote f asked s s d d 0
 unfolding seen_of
 wrote_none f asked s d = record {
-  asks = asked_none f s;
+  asks = asked_none f (needed f asked) s;
   prints = λ file known. record { text = []; lines = refl; appended = Appends-nil d.bytes };
   calm = refl;
 }
 
 pub wrote_more : (f : StoreFile) (asked : Asked) (before now next : Storage) (old mid new : Device) (k : ℕ) (g : GroupMeta) (lines bytes : List ℕ) → slice_get (groups_in f) k ≡ Some g → Wrote f asked before now old mid k →
-    Gives now next f.name (chunks_in f g) (λ file. group_lines f asked file k g ≡ Ok lines) → bytes ≡ lines → WritesAll mid new bytes (Ok tt) → Wrote f asked before next old new (k + 1)
+    Gives now next f.name (chunks_in f (needed f asked) g) (λ file. group_lines f asked file k g ≡ Ok lines) → bytes ≡ lines → WritesAll mid new bytes (Ok tt) → Wrote f asked before next old new (k + 1)
 wrote_more f asked before now next old mid new k g lines bytes at wrote gives same writes = record {
-  asks = asked_more f before now next k g at wrote.asks gives.asks;
+  asks = asked_more f (needed f asked) before now next k g at wrote.asks gives.asks;
   prints = λ file known.
       let done = wrote.prints file known in
       record {
         text = done.text ++ lines;
-        lines = seen_more (group_lines f asked file) (groups_in f) k g done.text lines at done.lines (of_before f before now k (λ file. group_lines f asked file k g ≡ Ok lines) wrote.asks gives.of_file file known);
+        lines = seen_more (group_lines f asked file) (groups_in f) k g done.text lines at done.lines (of_before f (needed f asked) before now k (λ file. group_lines f asked file k g ≡ Ok lines) wrote.asks gives.of_file file known);
         appended = Appends-trans old.bytes mid.bytes new.bytes done.text lines done.appended (subst (λ (s : List ℕ). Appends mid.bytes new.bytes s) same writes.0);
       };
   calm = writes.1 ∙ wrote.calm;
@@ -56,7 +57,7 @@ wrote_more f asked before now next old mid new k g lines bytes at wrote gives sa
 
 pub wrote_all : (f : StoreFile) (asked : Asked) (before now : Storage) (old new : Device) (k : ℕ) → Wrote f asked before now old new k → length (groups_in f) ≤ k → Queries f asked before now old new (Ok tt)
 wrote_all f asked before now old new k wrote past = record {
-  asks = asked_all f before now k wrote.asks past;
+  asks = asked_all f (needed f asked) before now k wrote.asks past;
   answers = λ file known.
       let done = wrote.prints file known in
       record {
@@ -90,18 +91,18 @@ prefix_part f asked old mid new k g lines file at done given part =
 -- A write is refused.
 
 wrote_part : (f : StoreFile) (asked : Asked) (before now next : Storage) (old mid new : Device) (k : ℕ) (g : GroupMeta) (lines : List ℕ) → slice_get (groups_in f) k ≡ Some g → Wrote f asked before now old mid k →
-    Gives now next f.name (chunks_in f g) (λ file. group_lines f asked file k g ≡ Ok lines) → WritesAll mid new lines (Err sink.NoMemory) → Queries f asked before next old new (Err fault.NoMemory)
+    Gives now next f.name (chunks_in f (needed f asked) g) (λ file. group_lines f asked file k g ≡ Ok lines) → WritesAll mid new lines (Err sink.NoMemory) → Queries f asked before next old new (Err fault.NoMemory)
 wrote_part f asked before now next old mid new k g lines at wrote gives writes = record {
-  asks = asked_first f before now next k g at wrote.asks (asks_all now next (chunks_in f g) gives.asks);
-  answers = λ file known. prefix_part f asked old mid new k g lines file at (wrote.prints file known) (of_before f before now k (λ file. group_lines f asked file k g ≡ Ok lines) wrote.asks gives.of_file file known) writes.0;
+  asks = asked_first f (needed f asked) before now next k g at wrote.asks (asks_all now next (chunks_in f (needed f asked) g) gives.asks);
+  answers = λ file known. prefix_part f asked old mid new k g lines file at (wrote.prints file known) (of_before f (needed f asked) before now k (λ file. group_lines f asked file k g ≡ Ok lines) wrote.asks gives.of_file file known) writes.0;
   counts = writes.1 ∙ wrote.calm;
 }
 
 wrote_breaks : (f : StoreFile) (asked : Asked) (before now next : Storage) (old mid new : Device) (k : ℕ) (g : GroupMeta) (lines : List ℕ) → slice_get (groups_in f) k ≡ Some g → Wrote f asked before now old mid k →
-    Gives now next f.name (chunks_in f g) (λ file. group_lines f asked file k g ≡ Ok lines) → WritesAll mid new lines (Err sink.Failed) → Queries f asked before next old new (Err fault.WriteFault)
+    Gives now next f.name (chunks_in f (needed f asked) g) (λ file. group_lines f asked file k g ≡ Ok lines) → WritesAll mid new lines (Err sink.Failed) → Queries f asked before next old new (Err fault.WriteFault)
 wrote_breaks f asked before now next old mid new k g lines at wrote gives writes = record {
-  asks = asked_first f before now next k g at wrote.asks (asks_all now next (chunks_in f g) gives.asks);
-  answers = λ file known. prefix_part f asked old mid new k g lines file at (wrote.prints file known) (of_before f before now k (λ file. group_lines f asked file k g ≡ Ok lines) wrote.asks gives.of_file file known) writes.0;
+  asks = asked_first f (needed f asked) before now next k g at wrote.asks (asks_all now next (chunks_in f (needed f asked) g) gives.asks);
+  answers = λ file known. prefix_part f asked old mid new k g lines file at (wrote.prints file known) (of_before f (needed f asked) before now k (λ file. group_lines f asked file k g ≡ Ok lines) wrote.asks gives.of_file file known) writes.0;
   counts = record {
     later = omega (arith, wrote.calm, writes.1.later);
     rose = subst (λ n. min (n + 1) (2 ^ 64 - 1) ≤ new.faults) wrote.calm writes.1.rose;
@@ -109,7 +110,7 @@ wrote_breaks f asked before now next old mid new k g lines at wrote gives writes
 }
 
 pub wrote_refused : (f : StoreFile) (asked : Asked) (before now next : Storage) (old mid new : Device) (k : ℕ) (g : GroupMeta) (lines bytes : List ℕ) (why : SinkError) (result : QueryFault) → slice_get (groups_in f) k ≡ Some g → Wrote f asked before now old mid k →
-    Gives now next f.name (chunks_in f g) (λ file. group_lines f asked file k g ≡ Ok lines) → bytes ≡ lines → WritesAll mid new bytes (Err why) → result ≡ write_fault why → Queries f asked before next old new (Err result)
+    Gives now next f.name (chunks_in f (needed f asked) g) (λ file. group_lines f asked file k g ≡ Ok lines) → bytes ≡ lines → WritesAll mid new bytes (Err why) → result ≡ write_fault why → Queries f asked before next old new (Err result)
 wrote_refused f asked before now next old mid new k g lines bytes why result at wrote gives same writes is =
     subst (λ (r : QueryFault). Queries f asked before next old new (Err r)) (sym is) (by why (subst (λ (s : List ℕ). WritesAll mid new s (Err why)) same writes))
   where
@@ -120,34 +121,34 @@ wrote_refused f asked before now next old mid new k g lines bytes why result at 
 -- A group isn't read.
 
 stops_at : (f : StoreFile) (asked : Asked) (before now next : Storage) (old new : Device) (k : ℕ) (g : GroupMeta) (why : ReadStop Violation) → slice_get (groups_in f) k ≡ Some g → Wrote f asked before now old new k →
-    ReadsFile {A = Vec ℕ} {B = List ℕ} (λ lines. lines.items) now next f.name (chunks_in f g) (λ file. group_lines f asked file k g) (Err why) → Queries f asked before next old new (Err (fault_of why))
+    ReadsFile {A = Vec ℕ} {B = List ℕ} (λ lines. lines.items) now next f.name (chunks_in f (needed f asked) g) (λ file. group_lines f asked file k g) (Err why) → Queries f asked before next old new (Err (fault_of why))
 stops_at f asked before now next old new k g (stop.Violated violation) at wrote stops = record {
-  asks = asked_first f before now next k g at wrote.asks stops.asks;
+  asks = asked_first f (needed f asked) before now next k g at wrote.asks stops.asks;
   answers = λ file known.
       let done = wrote.prints file known in
       record {
         text = done.text;
-        lines = seen_stops (group_lines f asked file) (groups_in f) k g done.text violation at done.lines (of_before f before now k (λ file. group_lines f asked file k g ≡ Err violation) wrote.asks stops.of_file file known);
+        lines = seen_stops (group_lines f asked file) (groups_in f) k g done.text violation at done.lines (of_before f (needed f asked) before now k (λ file. group_lines f asked file k g ≡ Err violation) wrote.asks stops.of_file file known);
         appended = done.appended;
       };
   counts = wrote.calm;
 }
 stops_at f asked before now next old new k g stop.Failed at wrote stops = record {
-  asks = asked_fails f before now next k g at wrote.asks stops;
+  asks = asked_fails f (needed f asked) before now next k g at wrote.asks stops;
   answers = λ file known. record {
     k = k;
-    fails = record { group = g; at = at; fails = subst (λ (s : Storage). FailsAt s next (chunks_in f g)) wrote.asks.ranges stops };
+    fails = record { group = g; at = at; fails = subst (λ (s : Storage). FailsAt s next (chunks_in f (needed f asked) g)) wrote.asks.ranges stops };
     prints = wrote.prints file known;
   };
   counts = wrote.calm;
 }
 stops_at f asked before now next old new k g stop.NoMemory at wrote stops = record {
-  asks = asked_first f before now next k g at wrote.asks stops;
+  asks = asked_first f (needed f asked) before now next k g at wrote.asks stops;
   answers = λ file known. prefix_now f asked before now old new k file wrote (wrote.prints file known);
   counts = wrote.calm;
 }
 
 pub wrote_stops : (f : StoreFile) (asked : Asked) (before now next : Storage) (old new : Device) (k : ℕ) (g : GroupMeta) (why : ReadStop Violation) (result : QueryFault) → slice_get (groups_in f) k ≡ Some g → Wrote f asked before now old new k →
-    ReadsFile {A = Vec ℕ} {B = List ℕ} (λ lines. lines.items) now next f.name (chunks_in f g) (λ file. group_lines f asked file k g) (Err why) → result ≡ fault_of why → Queries f asked before next old new (Err result)
+    ReadsFile {A = Vec ℕ} {B = List ℕ} (λ lines. lines.items) now next f.name (chunks_in f (needed f asked) g) (λ file. group_lines f asked file k g) (Err why) → result ≡ fault_of why → Queries f asked before next old new (Err result)
 wrote_stops f asked before now next old new k g why result at wrote stops is =
     subst (λ (r : QueryFault). Queries f asked before next old new (Err r)) (sym is) (stops_at f asked before now next old new k g why at wrote stops)

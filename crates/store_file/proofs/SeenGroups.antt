@@ -7,7 +7,7 @@ use Rattle.store_file.specs.declared.file_faults.Violation.{Violation}
 abbrev pub behind : {A : Type 0} → List A → Seen A → Seen A
 behind done s = record { found = done ++ s.found; stop = s.stop }
 
-whole : {A : Type 0} (s : Seen A) → s.stop ≡ None → s ≡ all_found s.found
+pub whole : {A : Type 0} (s : Seen A) → s.stop ≡ None → s ≡ all_found s.found
 whole s none = ap (λ (stop : Option Violation). record { found = s.found; stop = stop }) none
 
 joined : {A : Type 0} (r : Result (List A) Violation) (s t later : Seen A) (done : List A) → with_group r s ≡ all_found done → (s ≡ all_found s.found → t ≡ behind s.found later) → with_group r t ≡ behind done later

@@ -1,5 +1,5 @@
 -- The walk over the groups of a file: what was asked for, and what was found in them.
-use Rattle.std.proofs.Common.{◌≡◌, ◌∙◌, refl, sym, ap, subst, ℕ, ◌+◌, ◌<◌, ◌≤◌, List, [], ◌∷◌, ◌++◌, length, get_or, take, drop, Some, Result, Ok, Err, arith, append-nil}
+use Rattle.std.proofs.Common.{◌≡◌, ◌∙◌, refl, sym, ap, subst, ℕ, ◌+◌, ◌<◌, ◌≤◌, Bool, List, [], ◌∷◌, ◌++◌, length, get_or, take, drop, Some, Result, Ok, Err, arith, append-nil}
 use Rattle.std.specs.List.{slice_get}
 use Rattle.std.proofs.lemmas.Option.{slice_get_within, slice_get-get_or}
 use Rattle.std.proofs.lemmas.List.{take_more, drop_more, take-append-drop, length-take-le, length-drop}
@@ -81,49 +81,41 @@ seen_front gives groups k done within seen =
 
 -- What was asked for.
 
-pub plan_more : (f : StoreFile) (groups : List GroupMeta) (k : ℕ) (g : GroupMeta) → slice_get groups k ≡ Some g → plan_of f (take (k + 1) groups) ≡ plan_of f (take k groups) ++ chunks_in f g
-plan_more f groups k g at =
-    ap (plan_of f) (parts_at groups k g at).front
-    ∙ (flat_map-append (chunks_in f) (take k groups) (g ∷ [])
-    ∙ ap (λ (ranges : List ByteRange). plan_of f (take k groups) ++ ranges) (append-nil (chunks_in f g)))
+pub plan_more : (f : StoreFile) (mask : List Bool) (groups : List GroupMeta) (k : ℕ) (g : GroupMeta) → slice_get groups k ≡ Some g → plan_of f mask (take (k + 1) groups) ≡ plan_of f mask (take k groups) ++ chunks_in f mask g
+plan_more f mask groups k g at =
+    ap (plan_of f mask) (parts_at groups k g at).front
+    ∙ (flat_map-append (chunks_in f mask) (take k groups) (g ∷ [])
+    ∙ ap (λ (ranges : List ByteRange). plan_of f mask (take k groups) ++ ranges) (append-nil (chunks_in f mask g)))
 
-pub plan_next : (f : StoreFile) (groups : List GroupMeta) (k : ℕ) (g : GroupMeta) → slice_get groups k ≡ Some g → plan_of f (take k groups) ++ (chunks_in f g ++ plan_of f (drop (k + 1) groups)) ≡ plan_of f groups
-plan_next f groups k g at =
-    sym (ap (plan_of f) (parts_at groups k g at).whole ∙ flat_map-append (chunks_in f) (take k groups) (g ∷ drop (k + 1) groups))
+pub plan_next : (f : StoreFile) (mask : List Bool) (groups : List GroupMeta) (k : ℕ) (g : GroupMeta) → slice_get groups k ≡ Some g → plan_of f mask (take k groups) ++ (chunks_in f mask g ++ plan_of f mask (drop (k + 1) groups)) ≡ plan_of f mask groups
+plan_next f mask groups k g at =
+    sym (ap (plan_of f mask) (parts_at groups k g at).whole ∙ flat_map-append (chunks_in f mask) (take k groups) (g ∷ drop (k + 1) groups))
 
 -- all chunks of the first k groups were asked for
-pub record AskedGroups (f : StoreFile) (before now : Storage) (k : ℕ) : Type 0 where
+pub record AskedGroups (f : StoreFile) (mask : List Bool) (before now : Storage) (k : ℕ) : Type 0 where
   pub within : k ≤ length (groups_in f)
-  pub ranges : now ≡ with_ranges before (plan_of f (take k (groups_in f)))
+  pub ranges : now ≡ with_ranges before (plan_of f mask (take k (groups_in f)))
 
-pub asked_none : (f : StoreFile) (s : Storage) → AskedGroups f s s 0
-asked_none f s = record { within = omega arith; ranges = no_ranges s }
+pub asked_none : (f : StoreFile) (mask : List Bool) (s : Storage) → AskedGroups f mask s s 0
+asked_none f mask s = record { within = omega arith; ranges = no_ranges s }
 
-pub asked_more : (f : StoreFile) (before now new : Storage) (k : ℕ) (g : GroupMeta) → slice_get (groups_in f) k ≡ Some g → AskedGroups f before now k → Asks now new (chunks_in f g) → AskedGroups f before new (k + 1)
-asked_more f before now new k g at asked more = record {
+pub asked_more : (f : StoreFile) (mask : List Bool) (before now new : Storage) (k : ℕ) (g : GroupMeta) → slice_get (groups_in f) k ≡ Some g → AskedGroups f mask before now k → Asks now new (chunks_in f mask g) → AskedGroups f mask before new (k + 1)
+asked_more f mask before now new k g at asked more = record {
   within = omega (arith, (parts_at (groups_in f) k g at).inside);
-  ranges = asked_on before now new (plan_of f (take k (groups_in f))) (chunks_in f g) asked.ranges more.asked ∙ ap (with_ranges before) (sym (plan_more f (groups_in f) k g at));
+  ranges = asked_on before now new (plan_of f mask (take k (groups_in f))) (chunks_in f mask g) asked.ranges more.asked ∙ ap (with_ranges before) (sym (plan_more f mask (groups_in f) k g at));
 }
 
-pub asked_first : (f : StoreFile) (before now new : Storage) (k : ℕ) (g : GroupMeta) → slice_get (groups_in f) k ≡ Some g → AskedGroups f before now k → AsksFirst now new (chunks_in f g) → AsksFirst before new (plan_of f (groups_in f))
-asked_first f before now new k g at asked more = first_on before now new (plan_of f (groups_in f)) (chunks_in f g) (plan_of f (drop (k + 1) (groups_in f))) (plan_of f (take k (groups_in f))) (plan_next f (groups_in f) k g at) asked.ranges more
+pub asked_first : (f : StoreFile) (mask : List Bool) (before now new : Storage) (k : ℕ) (g : GroupMeta) → slice_get (groups_in f) k ≡ Some g → AskedGroups f mask before now k → AsksFirst now new (chunks_in f mask g) → AsksFirst before new (plan_of f mask (groups_in f))
+asked_first f mask before now new k g at asked more = first_on before now new (plan_of f mask (groups_in f)) (chunks_in f mask g) (plan_of f mask (drop (k + 1) (groups_in f))) (plan_of f mask (take k (groups_in f))) (plan_next f mask (groups_in f) k g at) asked.ranges more
 
-pub asked_fails : (f : StoreFile) (before now new : Storage) (k : ℕ) (g : GroupMeta) → slice_get (groups_in f) k ≡ Some g → AskedGroups f before now k → FailsAt now new (chunks_in f g) → FailsAt before new (plan_of f (groups_in f))
-asked_fails f before now new k g at asked more = fails_on before now new (plan_of f (groups_in f)) (chunks_in f g) (plan_of f (drop (k + 1) (groups_in f))) (plan_of f (take k (groups_in f))) (plan_next f (groups_in f) k g at) asked.ranges more
+pub asked_fails : (f : StoreFile) (mask : List Bool) (before now new : Storage) (k : ℕ) (g : GroupMeta) → slice_get (groups_in f) k ≡ Some g → AskedGroups f mask before now k → FailsAt now new (chunks_in f mask g) → FailsAt before new (plan_of f mask (groups_in f))
+asked_fails f mask before now new k g at asked more = fails_on before now new (plan_of f mask (groups_in f)) (chunks_in f mask g) (plan_of f mask (drop (k + 1) (groups_in f))) (plan_of f mask (take k (groups_in f))) (plan_next f mask (groups_in f) k g at) asked.ranges more
 
-pub asked_part : (f : StoreFile) (before now : Storage) (k : ℕ) → AskedGroups f before now k → AsksFirst before now (plan_of f (groups_in f))
-asked_part f before now k asked = record {
-  front = plan_of f (take k (groups_in f));
-  rest = plan_of f (drop k (groups_in f));
-  planned = sym (flat_map-append (chunks_in f) (take k (groups_in f)) (drop k (groups_in f))) ∙ ap (plan_of f) (take-append-drop k (groups_in f));
-  asked = asked.ranges;
-}
-
-pub asked_all : (f : StoreFile) (before now : Storage) (k : ℕ) → AskedGroups f before now k → length (groups_in f) ≤ k → Asks before now (plan_of f (groups_in f))
-asked_all f before now k asked past = record {
-  asked = asked.ranges ∙ ap (λ (gs : List GroupMeta). with_ranges before (plan_of f gs)) (all_taken (groups_in f) k asked.within past);
+pub asked_all : (f : StoreFile) (mask : List Bool) (before now : Storage) (k : ℕ) → AskedGroups f mask before now k → length (groups_in f) ≤ k → Asks before now (plan_of f mask (groups_in f))
+asked_all f mask before now k asked past = record {
+  asked = asked.ranges ∙ ap (λ (gs : List GroupMeta). with_ranges before (plan_of f mask gs)) (all_taken (groups_in f) k asked.within past);
 }
 
 -- what the file is known to have, it had before
-pub of_before : (f : StoreFile) (before now : Storage) (k : ℕ) (P : List ℕ → Type 0) → AskedGroups f before now k → OfFile now f.name P → OfFile before f.name P
-of_before f before now k P asked holds file known = holds file (subst (λ (s : Storage). IsFile s.files f.name file) (sym asked.ranges) known)
+pub of_before : (f : StoreFile) (mask : List Bool) (before now : Storage) (k : ℕ) (P : List ℕ → Type 0) → AskedGroups f mask before now k → OfFile now f.name P → OfFile before f.name P
+of_before f mask before now k P asked holds file known = holds file (subst (λ (s : Storage). IsFile s.files f.name file) (sym asked.ranges) known)

@@ -10,7 +10,7 @@ use Rattle.thrift_footer.specs.declared.opening.Opened.{Opened}
 use Rattle.thrift_footer.specs.declared.opening.OpenFault.{OpenFault}
 use Rattle.thrift_footer.specs.declared.opening.OpenFault.TheVariants.{Absent, Failed, Refused, NoMemory}
 use Rattle.store_read.specs.GroupRead.{CanRead}
-use Rattle.store_file.specs.Needs.{needs}
+use Rattle.store_file.specs.Masks.{full_mask}
 use Rattle.store_file.specs.declared.store_file.StoreFile.{StoreFile}
 
 -- the column of a name in a file that was opened
@@ -21,10 +21,10 @@ column_in name opened = column_of opened.meta.schema name (orders_in opened.meta
 unfoldable pub beginning : List ℕ → List ℕ → Result (Opened × ColumnView) Rule
 beginning file name = opening file >>= λ opened. column_in name opened >>= λ view. Ok (opened, view)
 
--- what is known of a file that was begun: its column can be read, and all leaves that are needed are read
+-- what is known of a file that was begun: its column can be read, and its mask reads all leaves
 pub record IsUsable (f : StoreFile) : Type 0 where
   pub can : CanRead f.column f.mask
-  pub reads : f.mask ≡ needs f.column
+  pub reads : f.mask ≡ full_mask f.column
 
 -- a file that was begun is what its bytes say; a refusal names the rule. Devices and memory may fail
 abbrev pub Begins : Result (Opened × ColumnView) Rule → Result StoreFile OpenFault → Type 0

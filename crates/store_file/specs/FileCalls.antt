@@ -1,5 +1,5 @@
 -- What the calls on a file answer, and what they leave.
-use Rattle.std.specs.Prelude.{◌≡◌, ℕ, List, length, take, slice_get, Option, None, Some, Result, Ok, Err}
+use Rattle.std.specs.Prelude.{◌≡◌, ℕ, Bool, List, length, take, slice_get, Option, None, Some, Result, Ok, Err}
 use Rattle.std.specs.List.{flat_map}
 use Rattle.std.specs.Io.KnownBytes.{Appends}
 use Rattle.json_tree.specs.Json.{Json}
@@ -14,6 +14,7 @@ use Rattle.shelf.specs.Calls.{with_ranges}
 use Rattle.store_read.specs.Ranges.{OfFile, Asks, AsksFirst, FailsAt}
 use Rattle.store_read.specs.GroupRead.{group_in, group_plan}
 use Rattle.group_lines.specs.Lines.{lines_of, trees_of}
+use Rattle.store_file.specs.Masks.{needed}
 use Rattle.store_file.specs.Places.{in_group}
 use Rattle.store_file.specs.SeenGroups.{Seen, all_found, seen_of}
 use Rattle.store_file.specs.declared.file_faults.Violation.{Violation}
@@ -24,33 +25,46 @@ use Rattle.store_file.specs.declared.store_file.StoreFile.{StoreFile}
 abbrev pub groups_in : StoreFile → List GroupMeta
 groups_in f = f.opened.meta.row_groups
 
--- the rows of a group under the leaves that are read, by the bytes of the file
-abbrev pub rows_of : StoreFile → List ℕ → GroupMeta → Result (List (Option Json)) GroupFault
-rows_of f file g = group_in f.mask f.opened.end f.column g file
+-- the rows of a group under a mask, by the bytes of the file
+abbrev pub rows_of : StoreFile → List Bool → List ℕ → GroupMeta → Result (List (Option Json)) GroupFault
+rows_of f mask file g = group_in mask f.opened.end f.column g file
 
 -- The rows of the file, and the lines of a query over them.
 
-abbrev pub group_rows : StoreFile → List ℕ → ℕ → GroupMeta → Result (List (Option Json)) Violation
-group_rows f file k g = in_group k (rows_of f file g)
+abbrev pub group_rows : StoreFile → List Bool → List ℕ → ℕ → GroupMeta → Result (List (Option Json)) Violation
+group_rows f mask file k g = in_group k (rows_of f mask file g)
 
+-- a query reads the leaves that it needs
 abbrev pub group_lines : StoreFile → Asked → List ℕ → ℕ → GroupMeta → Result (List ℕ) Violation
-group_lines f asked file k g = in_group k (lines_of asked (rows_of f file g))
+group_lines f asked file k g = in_group k (lines_of asked (rows_of f (needed f asked) file g))
 
--- the rows, or what the file violates first
+-- the rows under a mask, or what the leaves that it reads violate first
+abbrev pub rows_under : StoreFile → List Bool → List ℕ → Seen (Option Json)
+rows_under f mask file = seen_of (group_rows f mask file) 0 (groups_in f)
+
+-- the rows where all leaves are read, or what the file violates first
 abbrev pub rows_seen : StoreFile → List ℕ → Seen (Option Json)
-rows_seen f file = seen_of (group_rows f file) 0 (groups_in f)
+rows_seen f file = rows_under f f.mask file
 
--- the lines of the groups before the first that violates a rule
+-- the lines of the groups before the first that violates a rule in the leaves that the query needs
 abbrev pub lines_seen : StoreFile → Asked → List ℕ → Seen ℕ
 lines_seen f asked file = seen_of (group_lines f asked file) 0 (groups_in f)
 
--- What is read of the file: the chunks of each group in order.
+-- What is read of the file: the chunks of each group in order, of the leaves that a mask reads.
 
-abbrev pub chunks_in : StoreFile → GroupMeta → List ByteRange
-chunks_in f g = group_plan f.mask f.name f.opened.end f.column g
+abbrev pub chunks_in : StoreFile → List Bool → GroupMeta → List ByteRange
+chunks_in f mask g = group_plan mask f.name f.opened.end f.column g
 
-abbrev pub plan_of : StoreFile → List GroupMeta → List ByteRange
-plan_of f groups = flat_map (chunks_in f) groups
+abbrev pub plan_of : StoreFile → List Bool → List GroupMeta → List ByteRange
+plan_of f mask groups = flat_map (chunks_in f mask) groups
+
+-- all that a query reads
+abbrev pub query_plan : StoreFile → Asked → List ByteRange
+query_plan f asked = plan_of f (needed f asked) (groups_in f)
+
+-- all that a check reads
+abbrev pub check_plan : StoreFile → List ByteRange
+check_plan f = plan_of f f.mask (groups_in f)
 
 -- What a call leaves of the shelf: ranges of a plan were asked for in order, all of them where it read to the end. Nothing
 -- else changed, but the count of reads that failed where one did. `broken` is what holds after a write that failed.
@@ -62,12 +76,12 @@ AsksPlan broken plan before after (Err WriteFault) = broken
 AsksPlan broken plan before after (Err NoMemory) = AsksFirst before after plan
 
 -- a call that writes the lines of all groups
-abbrev pub AsksGroups : {A : Type 0} → StoreFile → Storage → Storage → Result A QueryFault → Type 0
-AsksGroups f before after result = AsksPlan (AsksFirst before after (plan_of f (groups_in f))) (plan_of f (groups_in f)) before after result
+abbrev pub AsksGroups : {A : Type 0} → StoreFile → Asked → Storage → Storage → Result A QueryFault → Type 0
+AsksGroups f asked before after result = AsksPlan (AsksFirst before after (query_plan f asked)) (query_plan f asked) before after result
 
 -- a call that judges all groups. It writes nothing, so that no write fails
 abbrev pub JudgesGroups : {A : Type 0} → StoreFile → Storage → Storage → Result A QueryFault → Type 0
-JudgesGroups f before after result = AsksPlan ⊥ (plan_of f (groups_in f)) before after result
+JudgesGroups f before after result = AsksPlan ⊥ (check_plan f) before after result
 
 -- What a query answers on the bytes of a file, and what its output gained.
 
@@ -84,15 +98,15 @@ pub record PrintsFirst (f : StoreFile) (asked : Asked) (file : List ℕ) (k : �
   pub appended : Appends old new text
 
 -- the chunks of the first k groups were asked for, and then a read of a chunk of group k failed
-pub record FailsIn (f : StoreFile) (before after : Storage) (k : ℕ) : Type 0 where
+pub record FailsIn (f : StoreFile) (mask : List Bool) (before after : Storage) (k : ℕ) : Type 0 where
   pub group : GroupMeta
   pub at : slice_get (groups_in f) k ≡ Some group
-  pub fails : FailsAt (with_ranges before (plan_of f (take k (groups_in f)))) after (chunks_in f group)
+  pub fails : FailsAt (with_ranges before (plan_of f mask (take k (groups_in f)))) after (chunks_in f mask group)
 
 -- the lines of the groups before the one whose chunk was asked for last
 pub record PrintsRead (f : StoreFile) (asked : Asked) (file : List ℕ) (before after : Storage) (old new : Option (List ℕ)) : Type 0 where
   pub k : ℕ
-  pub fails : FailsIn f before after k
+  pub fails : FailsIn f (needed f asked) before after k
   pub prints : PrintsFirst f asked file k old new
 
 abbrev pub Answers : StoreFile → Asked → List ℕ → Storage → Storage → Option (List ℕ) → Option (List ℕ) → Result (Unit {0}) QueryFault → Type 0
@@ -140,7 +154,7 @@ Judges f file (Err NoMemory) = Unit {0}
 -- a query: what it asked for, what it wrote by the bytes of the file, and that the count of writes that failed goes with
 -- its answer
 pub record Queries (f : StoreFile) (asked : Asked) (before after : Storage) (out_before out_after : Device) (result : Result (Unit {0}) QueryFault) : Type 0 where
-  pub asks : AsksGroups f before after result
+  pub asks : AsksGroups f asked before after result
   pub answers : OfFile before f.name (λ file. Answers f asked file before after out_before.bytes out_after.bytes result)
   pub counts : CountsWrites out_before out_after result
 
@@ -153,5 +167,5 @@ pub record Checks (f : StoreFile) (before after : Storage) (result : Result (ℕ
 pub record ReadsRows (f : StoreFile) (before after : Storage) (k : ℕ) (result : Result (List (Option Tree)) QueryFault) : Type 0 where
   pub group : GroupMeta
   pub at : slice_get (groups_in f) k ≡ Some group
-  pub asks : AsksPlan ⊥ (chunks_in f group) before after result
-  pub gives : OfFile before f.name (λ file. GivesRows (group_rows f file k group) result)
+  pub asks : AsksPlan ⊥ (chunks_in f f.mask group) before after result
+  pub gives : OfFile before f.name (λ file. GivesRows (group_rows f f.mask file k group) result)

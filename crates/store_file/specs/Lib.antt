@@ -1,7 +1,7 @@
 -- places of what a file violates
 pub mod Places
 -- the leaves that are read
-pub mod Needs
+pub mod Masks
 -- the opening of a file and its column
 pub mod Beginning
 -- the groups of a file, in order

@@ -54,7 +54,7 @@ fn count_group<S: Shelf>(
     requires usable { IsUsable file.now }
     ensures { CountsGroup file.now (S.seen shelf.old) (S.seen shelf.new) k group.now result }
 {
-    match open_group(alloc, shelf, file, k, group) {
+    match open_group(alloc, shelf, file, &file.mask, k, group) {
         Ok(rows) => match count_rows(alloc, rows, &file.column.column, &file.mask) {
             Ok(count) => Ok(count),
             Err(refusal) => Err(refusal_in(k, refusal)),

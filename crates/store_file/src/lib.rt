@@ -7,7 +7,7 @@
 //! | `checking` | `StoreFile::check`: whether the file violates a rule |
 //! | `row_reading` | `StoreFile::rows`: the rows of a row group |
 //! | `file_groups` | one row group of a file: its rows, and the lines of a query over them |
-//! | `laws` | that the lines that are seen are the answer over the rows that are seen |
+//! | `laws` | that the lines that are seen are the answer over the rows, as the leaves show them that the query needs |
 //! | `file_faults` | `Place`, `Violation`, `QueryFault`: what a file violates and where, and why a call was refused |
 #![tactic(auto)]
 

@@ -2,7 +2,7 @@
 
 ghost use Rattle.std.specs.Prelude.{◌≡◌, ℕ, List, true, replicate, length, IfOk};
 ghost use Rattle.thrift_footer.specs.Opening.{opening_ranges, IsFile, IsMissing, IsUnopened, Asks};
-ghost use Rattle.store_file.specs.Needs.{needs};
+ghost use Rattle.store_file.specs.Masks.{full_mask};
 ghost use Rattle.store_file.specs.Beginning.{beginning, Begins, IsUsable};
 ghost use Rattle.store_file.specs.FileCalls.{groups_in};
 
@@ -22,13 +22,13 @@ pub struct StoreFile {
     pub(crate) name: Text,
     pub(crate) opened: Opened,
     pub(crate) column: FileColumn,
-    // which leaves of the column are read
+    // reads all leaves of the column, for checks and rows
     pub(crate) mask: Mask,
 }
 
 // Each leaf of the column is read.
 fn full_mask(alloc: Global, column: &FileColumn) -> Result<Mask, NoMemory>
-    ensures { IfOk result (λ mask. mask ≡ needs column.now) }
+    ensures { IfOk result (λ mask. mask ≡ full_mask column.now) }
 {
     let mut mask = Sequence::new(alloc);
     for _leaf in 0..column.leaves.len() {

@@ -62,19 +62,19 @@ fn run<S: Shelf, I: Source, O: Sink>(
 /// | `scan [--where FILTER] PATH..` | prints the matches of 1 to 64 paths in each document of the input on which the filter holds |
 /// | `variant [--offset-width N] [--id-width N]` | prints the metadata and the value of each document of the input as a Variant, in hex; its offsets and field ids take at least N bytes each; an N is a number from 1 to 4, of 1 to 10 digits, and 1 where it isn't given |
 /// | `load OUT [--schema SCHEMA] [--offset-width N] [--id-width N] [--page-bytes N] [--group-rows N]` | writes the documents of the input to a new file OUT of the shelf, a row each, in a column `doc` that is shredded by the schema |
-/// | `query FILE [--column NAME] [--where FILTER] PATH..` | prints the matches of 1 to 64 paths in each row of a file's column on which the filter holds; the column is `doc` where none is named |
+/// | `query FILE [--column NAME] [--where FILTER] PATH..` | prints the matches of 1 to 64 paths in each row of a file's column on which the filter holds; the column is `doc` where none is named, and of its leaves those alone are read that the paths and the filter need |
 /// | `check FILE [--column NAME]` | prints `ok G groups R rows` where the file opens and has the column, and no row group of the column violates a rule; statistics and other columns aren't judged |
 ///
 /// | Status | Line on `err` | Where |
 /// |---|---|---|
-/// | 0 | none | the job was done: the input, or the file, was read to its end, and no read or write failed |
+/// | 0 | none | the job was done: the input, or what the command reads of the file, was read to its end, and no read or write failed |
 /// | 2 | `vstore: usage` | the words aren't those of a command |
 /// | 2 | `vstore: bad schema` | the schema isn't in its grammar |
 /// | 2 | `vstore: bad filter`, `vstore: bad order`, `vstore: bad path`, `vstore: repeated path` | the filter isn't in its grammar; a relation in it doesn't suit its literal; a path isn't in its grammar; two paths have one canonical text |
 /// | 3 | `vstore: line N: FAULT` | line N is the first that has a fault ([`DocFault`]). All lines before it are answered; OUT has the row groups of them that closed |
 /// | 3 | `vstore: input too long` | more than 2^40 bytes came. The same of all lines before the one that the limit falls into |
 /// | 3 | `vstore: footer full` | the footer of OUT would be longer than 67,108,864 bytes with a group; OUT has the groups before it |
-/// | 4 | `vstore: file 1: RULE`, and then nothing, ` group G leaf L` or ` group G row R` | the rule is the first that FILE violates, and this is where; `query` has printed the lines of the groups before, `check` nothing |
+/// | 4 | `vstore: file 1: RULE`, and then nothing, ` group G leaf L` or ` group G row R` | the rule is the first that FILE violates in what the command reads of it, and this is where; `query` has printed the lines of the groups before, `check` nothing |
 /// | 5 | `vstore: read fault` | a read failed. Of the input: all lines whose LF had come are answered, and OUT has the groups of them that closed. Of FILE: `query` has printed the lines of the groups before the one whose chunk was asked for last, `check` nothing |
 /// | 6 | `vstore: write fault` | a write to `out` or to the shelf failed; what `out` gained is a prefix of the answer, and what OUT has is one of its groups or of the whole file |
 /// | 7 | `vstore: no memory` | there was no memory for something; what `out` gained, and what OUT has, are such prefixes |

@@ -1,3 +1,4 @@
+use Rattle.file_laws.proofs.PrunedFiles.{lines_kept}
 use Rattle.file_laws.proofs.ValidFiles.{valid_begins, valid_lines, valid_counts, valid_answerable, valid_judgeable, valid_prints, valid_checks}
 use Rattle.file_laws.proofs.ValidRows.{valid_rows}
 use Rattle.file_laws.proofs.laws.valid_files_are_seen.Goals as goal
@@ -10,6 +11,9 @@ returns-clause-rows c = valid_rows
 
 pub returns-clause-lines : goal.returns-clause-lines
 returns-clause-lines c = valid_lines
+
+pub returns-clause-as_rows : goal.returns-clause-as_rows
+returns-clause-as_rows c = lines_kept
 
 pub returns-clause-counts : goal.returns-clause-counts
 returns-clause-counts c = valid_counts

@@ -11,22 +11,22 @@ pub returns-in-Err-write_all : goal.returns-in-Err-write_all
 returns-in-Err-write_all g c =
     wrote_refused c.args.self.now (query_of c.args.query.now) (g.S.Shelf.seen c.args.shelf.now) (g.S.Shelf.seen c.loop-k.shelf) (g.S.Shelf.seen c.read_lines.new.shelf)
     (g.O.Sink.seen c.args.out.now) (g.O.Sink.seen c.loop-k.out) (g.O.Sink.seen c.write_all.new.sink)
-    c.loop-k.k c.at.result.now c.in-Ok.lines.items c.as_slice.result.now c.in-Err-write_all.fault c.write_fault.result
-    c.at.ensures c.loop-k.invariant c.in-Ok.ensures c.as_slice.ensures.value c.in-Err-write_all.ensures.writes c.write_fault.ensures
+    c.loop-k.k c.at.result.now c.in-Ok-read_lines.lines.items c.as_slice.result.now c.in-Err-write_all.fault c.write_fault.result
+    c.at.ensures c.loop-k.invariant c.in-Ok-read_lines.ensures c.as_slice.ensures.value c.in-Err-write_all.ensures.writes c.write_fault.ensures
 
-pub returns-in-Err : goal.returns-in-Err
-returns-in-Err g c =
+pub returns-in-Err-read_lines : goal.returns-in-Err-read_lines
+returns-in-Err-read_lines g c =
     wrote_stops c.args.self.now (query_of c.args.query.now) (g.S.Shelf.seen c.args.shelf.now) (g.S.Shelf.seen c.loop-k.shelf) (g.S.Shelf.seen c.read_lines.new.shelf)
     (g.O.Sink.seen c.args.out.now) (g.O.Sink.seen c.loop-k.out)
-    c.loop-k.k c.at.result.now c.in-Err.stop c.fault_of.result
-    c.at.ensures c.loop-k.invariant c.in-Err.ensures c.fault_of.ensures
+    c.loop-k.k c.at.result.now c.in-Err-read_lines.stop c.fault_of.result
+    c.at.ensures c.loop-k.invariant c.in-Err-read_lines.ensures c.fault_of.ensures
 
 pub loop-k-preserved : goal.loop-k-preserved
 loop-k-preserved g c =
     wrote_more c.args.self.now (query_of c.args.query.now) (g.S.Shelf.seen c.args.shelf.now) (g.S.Shelf.seen c.loop-k.shelf) (g.S.Shelf.seen c.read_lines.new.shelf)
     (g.O.Sink.seen c.args.out.now) (g.O.Sink.seen c.loop-k.out) (g.O.Sink.seen c.write_all.new.sink)
-    c.loop-k.k c.at.result.now c.in-Ok.lines.items c.as_slice.result.now
-    c.at.ensures c.loop-k.invariant c.in-Ok.ensures c.as_slice.ensures.value c.in-Ok-write_all.ensures.writes
+    c.loop-k.k c.at.result.now c.in-Ok-read_lines.lines.items c.as_slice.result.now
+    c.at.ensures c.loop-k.invariant c.in-Ok-read_lines.ensures c.as_slice.ensures.value c.in-Ok-write_all.ensures.writes
 
 pub returns : goal.returns
 returns g c =
