@@ -78,6 +78,9 @@ impl Shown for Changes {
 // number. In the second group of two, a value has a kind that there isn't: the line of the first is printed. There a chunk of
 // the metadata 110000 has 30 bytes (levels 6, length 4, cell 3), and one of the value 0c02 has 29.
 //
+// A query reads the metadata and what its paths need: of a both leaves, of z the value, of a part of a the value of a. What
+// it doesn't read it doesn't judge.
+//
 // Where neither a value nor a number is there, the row is null.
 const CHANGES: &str =
     r#"--schema={a:int64};{"a":1,"z":2};02010100020c02;02010000020c02 | check f | 4 vstore: file 1: FieldInBoth group 0 row 0¶ (4 34)(38 35)(73 24)(97 32)
@@ -88,7 +91,11 @@ const CHANGES: &str =
 --schema={a:int64};{"a":1,"z":2};74797065645f76616c75651500;74797065645f76616c75651502 | check f | 4 vstore: file 1: Codec group 0 leaf 3¶ (4 34)(38 35)(73 24)
 --schema={a:int64};{"a":1,"z":2};000050415231;0000504152 | query f $ | 4 vstore: file 1: NotParquet¶ 
 --schema={a:int64};{"a":1,"z":2};000050415231;0000504152 | check f | 4 vstore: file 1: NotParquet¶ 
---schema={a:int64};{"a":1,"z":2};02010100020c02;02010200020c02 | query f $.a | 4 vstore: file 1: FieldId group 0 row 0¶ (4 34)(38 35)(73 24)(97 32)
+--schema={a:int64};{"a":1,"z":2};02010100020c02;02010000020c02 | query f $.a | 0 {"$.a":1}¶ (4 34)(73 24)(97 32)
+--schema={a:int64};{"a":1,"z":2};02010100020c02;02010200020c02 | query f $.z | 4 vstore: file 1: FieldId group 0 row 0¶ (4 34)(38 35)
+--schema={a:int64};{"a":1,"z":2};02010100020c02;02010200020c02 | query f $.a | 0 {"$.a":1}¶ (4 34)(73 24)(97 32)
+--schema={a:int64};{"a":1,"z":2};02010100020c02;02010200020c02 | query f --where=$.z·=·2 $.a | 4 vstore: file 1: FieldId group 0 row 0¶ (4 34)(38 35)(73 24)(97 32)
+--schema={a:int64};{"a":1,"z":2};02010100020c02;02010100020c03 | query f $.a.k | 0 {}¶ (4 34)(73 24)
 --schema={a:int64};{"a":1,"z":2};1102000102617a;1102000102617a | query f $ | 0 {"$":{"a":1,"z":2}}¶ (4 34)(38 35)(73 24)(97 32)
 --schema={a:int64};{"a":1,"z":2};1102000102617a;1102000102ff7a | check f | 4 vstore: file 1: MetaUtf8 group 0 row 0¶ (4 34)(38 35)(73 24)(97 32)
 --schema={a:int64};{"a":1,"z":2};1102000102617a;11020001027a61 | check f | 4 vstore: file 1: MetaOrder group 0 row 0¶ (4 34)(38 35)(73 24)(97 32)

@@ -35,7 +35,7 @@ fn both_text(
     Ok(format!(in alloc; "{bytes}: {query}, {check}")?)
 }
 
-// Whether a check refuses a file, where it and a query ended as they may: it refuses what the query does.
+// Whether a check refuses a file, where it and a query ended as they may: it refuses at least what the query does.
 fn judged(alloc: Global, query: &Outcome, check: &Outcome, file: &[u8]) -> Result<bool, Wrong> {
     let agree = query.status <= check.status;
     if agree && is_answer_or_rule(query) && is_answer_or_rule(check) {
@@ -49,9 +49,11 @@ fn called_on(alloc: Global, words: &str, file: &[u8]) -> Result<Outcome, NoMemor
     called(alloc, words, shelf_of(alloc, file, &[])?, b"")
 }
 
-/// Whether a check refuses a file.
+/// Whether a check refuses a file. Beside a query that reads all leaves, one is tried that reads few.
 pub fn is_refused(alloc: Global, file: &[u8]) -> Result<bool, Wrong> {
-    let query = called_on(alloc, "query f $", file)?;
     let check = called_on(alloc, "check f", file)?;
-    judged(alloc, &query, &check, file)
+    let few = called_on(alloc, "query f $.a", file)?;
+    judged(alloc, &few, &check, file)?;
+    let all = called_on(alloc, "query f $", file)?;
+    judged(alloc, &all, &check, file)
 }

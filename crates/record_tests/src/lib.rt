@@ -7,11 +7,14 @@
 //! | `records` | records as text |
 //! | `shredding` | documents shredded by schemas, and read again |
 //! | `rules` | records that violate rules, and masks |
+//! | `needed_leaves` | which leaves queries need |
 //! | `chunk_metadata` | the metadata of column chunks, written, and the ranges of chunks |
 #![tactic(auto)]
 
 #[cfg(test)]
 mod chunk_metadata;
+#[cfg(test)]
+mod needed_leaves;
 #[cfg(test)]
 mod records;
 #[cfg(test)]
