@@ -10,8 +10,26 @@ use test_rows::Wrong;
 use test_runs::{Outcome, call_full_on, words_of};
 use vs_bytes::NoMemory;
 
-// How often a query of the rows calls the shelf: for the length, the three ranges of opening, and for each of the chunks.
-const QUERY_CALLS: u64 = 20;
+// How often a query of the rows calls the shelf: for the length, the three ranges of opening, and in each of four groups
+// for three chunks: the metadata, and the two leaves of a. A check reads the value's too.
+const QUERY_CALLS: u64 = 16;
+
+const CHECK_CALLS: u64 = 20;
+
+// What a query has printed where call k fails, if it makes so many: the lines of the groups before.
+fn queried_before(k: u64) -> Option<&'static [u8]> {
+    if k < QUERY_CALLS {
+        let groups = (k as usize).saturating_sub(4) / 3;
+        Some(first_lines(ANSWER, groups * 2))
+    } else {
+        None
+    }
+}
+
+// What a check has: nothing.
+fn checked_before(k: u64) -> Option<&'static [u8]> {
+    if k < CHECK_CALLS { Some(b"") } else { None }
+}
 
 // A call on the file f, whose calls of the shelf, and of the output, of these numbers fail. Its first read would.
 fn answer_failing(
@@ -35,20 +53,19 @@ fn is_failed_read(run: &Outcome, out: &[u8]) -> bool {
     ended(run, 5, out, b"vstore: read fault\n") && run.shelf.read_faults() == 1
 }
 
-// Checks a call of which call k of the shelf fails: it printed so much by then, and else the whole.
+// Checks a call of which call k of the shelf fails: it printed so much by then, or the whole where it makes fewer calls.
 fn check_failed_read(
     alloc: Global,
     texts: &[&str],
     file: &[u8],
-    begun: &[u8],
+    begun: Option<&[u8]>,
     whole: &[u8],
     k: u64,
 ) -> Result<(), Wrong> {
     let run = answer_failing(alloc, texts, file, &[k], &[])?;
-    let ends = if k < QUERY_CALLS {
-        is_failed_read(&run, begun)
-    } else {
-        ended(&run, 0, whole, b"")
+    let ends = match begun {
+        Some(out) => is_failed_read(&run, out),
+        None => ended(&run, 0, whole, b""),
     };
     let is_right = is_kept(alloc, &run, file)? && ends;
     judge(alloc, is_right, &run, k)
@@ -60,10 +77,8 @@ fn a_query_that_cannot_read_prints_the_groups_before(rt: HostRuntime) -> Result<
     let alloc = rt.alloc();
     let file = file_with(alloc, ROWS)?;
     for k in 0..30u64 {
-        let groups = (k as usize).saturating_sub(4) / 4;
-        let lines = first_lines(ANSWER, groups * 2);
-        check_failed_read(alloc, &QUERY, file.as_slice(), lines, ANSWER, k)?;
-        check_failed_read(alloc, &CHECK, file.as_slice(), b"", COUNTS, k)?;
+        check_failed_read(alloc, &QUERY, file.as_slice(), queried_before(k), ANSWER, k)?;
+        check_failed_read(alloc, &CHECK, file.as_slice(), checked_before(k), COUNTS, k)?;
     }
     Ok(())
 }
