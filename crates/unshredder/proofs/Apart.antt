@@ -147,3 +147,9 @@ not_repeated mask names gs k above xs value left pairs d l r h twice =
     let once : repeats (map (λ (pair : List ℕ × Tree). pair.0) pairs) ≡ false = subst (λ (some : List (List ℕ)). repeats some ≡ false) all never in
     let wrong : true ≡ false = sym twice ∙ once in
     cc
+
+-- the same where nothing is left over
+pub not_repeated_alone : (mask : ℕ → Bool) (names : List (List ℕ)) (gs : Groups) (k above : ℕ) (xs : Recs) (left pairs : List (List ℕ × Tree))
+    → repeats (field_names gs) ≡ false → left ≡ [] → ahead (map pair_seen left) (fields_seen mask names gs k above xs) ≡ Ok (map pair_seen pairs) → repeats (map (λ pair. pair.0) pairs) ≡ true → ⊥
+not_repeated_alone mask names gs k above xs left pairs d e h twice =
+    not_repeated mask names gs k above xs None [] pairs d refl refl (subst (λ (l : List (List ℕ × Tree)). ahead (map pair_seen l) (fields_seen mask names gs k above xs) ≡ Ok (map pair_seen pairs)) e h) twice

@@ -6,6 +6,7 @@ pub mod Moved
 pub mod NextRead
 pub mod NoValueRead
 pub mod NodesRead
+pub mod OneMore
 pub mod Parts
 pub mod Unread
 pub mod ValuesLeft

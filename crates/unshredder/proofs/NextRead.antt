@@ -105,3 +105,19 @@ pub all_read : (mask : ℕ → Bool) (Left : ℕ → Groups → Recs → Type 0)
     → Passes mask Left → AreAhead mask Left fs xs (drop j rs) → length rs ≤ j → (k : ℕ) × ((later : Recs) × Left k no_groups later)
 all_read mask Left fs xs rs j passes ahead h =
     subst (λ (all : List Reading). Found mask Left fs xs all) (drop_all j rs h) (found_from (length fs) mask Left fs xs (drop j rs) passes ahead.place ahead.first (omega arith) ahead.left ahead.readings)
+
+-- the same of a field that stands at `i`
+pub record IsNextField (mask : ℕ → Bool) (Left : ℕ → Groups → Recs → Type 0) (fs : List (List ℕ × Node)) (xs : List Record) (r : Reading) (later : List Reading) (i : ℕ) (f : List ℕ × Node) : Type 0 where
+  pub first : ℕ
+  pub here : IsReading mask (group_of f.1) first r
+  pub left : (x : Record) → x ≡ get_or xs i x → Left first (field f.0 (group_of f.1) (groups_from (map named (drop (i + 1) fs)))) (recs (rec_of x) (recs_from (map rec_of (drop (i + 1) xs))))
+  pub more : AreReadings mask (groups_from (map named (drop (i + 1) fs))) (i + 1) (first + width (group_of f.1)) later
+
+pub next_field : (mask : ℕ → Bool) (Left : ℕ → Groups → Recs → Type 0) (fs : List (List ℕ × Node)) (xs : List Record) (r : Reading) (later : List Reading) (i : ℕ) (f : List ℕ × Node)
+    → IsNext mask Left fs xs r later i → f ≡ get_or fs i f → IsNextField mask Left fs xs r later i f
+next_field mask Left fs xs r later i f next e = record {
+  first = next.first;
+  here = subst (λ (g : List ℕ × Node). IsReading mask (group_of g.1) next.first r) (sym e) (next.here f);
+  left = λ x is. subst (λ (g : List ℕ × Node). Left next.first (field g.0 (group_of g.1) (groups_from (map named (drop (i + 1) fs)))) (recs (rec_of x) (recs_from (map rec_of (drop (i + 1) xs))))) (sym e) (next.left f f x is);
+  more = subst (λ (g : List ℕ × Node). AreReadings mask (groups_from (map named (drop (i + 1) fs))) (i + 1) (next.first + width (group_of g.1)) later) (sym e) (next.more f);
+}

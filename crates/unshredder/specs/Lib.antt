@@ -1,3 +1,4 @@
+pub mod Alone
 pub mod Merging
 pub mod Readings
 pub mod Rows

@@ -5,6 +5,7 @@
 //!
 //! | Module | What it holds |
 //! |---|---|
+//! | `alone` | typed parts beside which no value that is read is there |
 //! | `leaves` | which leaves of a node are read |
 //! | `merging` | what the value and the typed part of one node mean together |
 //! | `records` | records, node by node |
@@ -14,6 +15,7 @@
 //! | `rows` | `unshred`: a row; `Reading::new`, `Reading::row`: many of them |
 #![tactic(auto)]
 
+mod alone;
 mod leaves;
 mod merging;
 mod needing;

@@ -8,7 +8,8 @@ ghost use Rattle.vs_bytes.specs.Outcome.{Gives, Makes};
 ghost use Rattle.variant_meta.specs.MetaRefs.{names_of};
 ghost use Rattle.variant_read.specs.Meaning.{max_nesting};
 ghost use Rattle.variant_read.specs.Trees.{object_of};
-ghost use Rattle.json_tree.specs.Json.{fields_of};
+ghost use Rattle.exact_num.specs.NumberOf.{decimal_of};
+ghost use Rattle.json_tree.specs.Json.{number, fields_of};
 ghost use Rattle.variant_read.specs.View.{json_of, members_of};
 ghost use Rattle.shred_schema.specs.Cells.{is_of_prim};
 ghost use Rattle.shred_schema.specs.Lawful.{MayHold};
@@ -18,7 +19,7 @@ ghost use Rattle.shred_schema.specs.Views.{named};
 ghost use Rattle.unshredder.specs.Merging.{with_cell, is_in_both, left_over, member, without_fields};
 ghost use Rattle.unshredder.specs.Seen.{value_seen};
 
-use json_tree::Tree;
+use json_tree::{Number, Tree};
 use shred_schema::{Node, tree_of};
 use std::alloc::Global;
 use variant_meta::MetaRef;
@@ -134,7 +135,24 @@ pub(crate) fn left_over(
     }
 }
 
+// Puts a field's number after the members. It is made in place, for that is cheapest.
+#[inline(always)]
+pub(crate) fn put_number(
+    alloc: Global,
+    name: &Text,
+    whole: Number,
+    pairs: &mut Vec<(Text, Tree)>,
+) -> Result<(), NoMemory>
+    ensures { OnOk result (map seen pairs.new.items ≡ map seen pairs.old.items ++ member name.now (Some (number (decimal_of whole)))) }
+{
+    pairs.reserve(1)?;
+    let name = Text::from_str(alloc, name.as_str())?;
+    pairs.push_reserved((name, Tree::Num(whole)));
+    Ok(())
+}
+
 // Puts a field that isn't missing after the members.
+#[inline(always)]
 pub(crate) fn put_member(
     alloc: Global,
     name: &Text,

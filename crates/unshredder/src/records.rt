@@ -1,8 +1,8 @@
 //! Records, node by node.
 
-ghost use Rattle.std.specs.Prelude.{◌≡◌, ℕ, ◌+◌, ◌≤◌, Bool, map};
+ghost use Rattle.std.specs.Prelude.{◌≡◌, ℕ, ◌+◌, ◌≤◌, Bool, map, None, Some};
 ghost use Rattle.std.specs.Option.{option_map};
-ghost use Rattle.json_tree.specs.Json.{items_of};
+ghost use Rattle.json_tree.specs.Json.{object, items_of};
 ghost use Rattle.json_tree.specs.View.{view, seen as pair_seen};
 ghost use Rattle.vs_bytes.specs.Outcome.{Makes};
 ghost use Rattle.variant_meta.specs.MetaRefs.{names_of};
@@ -15,17 +15,25 @@ ghost use Rattle.shred_schema.specs.Shapes.{HasShape, PartHasShape, FieldsHaveSh
 ghost use Rattle.shred_schema.specs.Views.{group_of, kind_of, rec_of, part_of, part_or_empty, named};
 ghost use Rattle.unshredder.specs.Merging.{with_fields, with_items};
 ghost use Rattle.unshredder.specs.Readings.{IsReading, AreInside, AreReadings, UnderSome};
+ghost use Rattle.unshredder.specs.declared.readings.Reading.{out-Reading};
+ghost use Rattle.unshredder.specs.Alone.{with_member};
 ghost use Rattle.unshredder.specs.Seen.{seen, typed_seen, fields_seen, items_seen, is_tested, ahead};
 
-use crate::merging::{left_over, put_member, value_seen, whole, with_cell, without_fields};
+use crate::alone::{FieldsAlone, number_alone};
+use crate::merging::{
+    left_over, put_member, put_number, value_seen, whole, with_cell, without_fields,
+};
 use crate::places::members_of;
 use crate::readings::Reading;
-use json_tree::{Items, Tree};
+use json_tree::{Items, Members, Tree};
 use shred_schema::{Node, Part, Record, Typed};
 use std::alloc::Global;
 use variant_meta::MetaRef;
 use variant_read::ValueRef;
 use vs_bytes::{Refusal, Rule, Text};
+
+// For how many members there is room at once, where more may follow.
+const FIRST_ROOM: usize = 12;
 
 /// What a record means under each mask of which the reading is one, or the first rule that it violates. Its node stands
 /// inside `above` objects and lists. `None` where nothing is there.
@@ -124,6 +132,7 @@ fn typed_seen(
 
 // An object, of whose fields each has a record. Its value may have further members.
 #[cycle(seen)]
+#[inline(always)]
 fn with_fields(
     alloc: Global,
     readings: &[Reading],
@@ -151,6 +160,7 @@ fn with_fields(
 
 // The members that the fields give, after those that are left over. A field of which no leaf is read gives none.
 #[cycle(seen)]
+#[inline(always)]
 fn fields_seen(
     alloc: Global,
     readings: &[Reading],
@@ -169,14 +179,65 @@ fn fields_seen(
     let mut left = left;
     for reading in readings {
         let k = reading.place;
-        let node = &fields[k].1;
-        let found = match seen(alloc, reading, meta, node, above, &records[k]) {
-            Ok(found) => found,
-            Err(refused) => return Err(refused),
-        };
-        put_member(alloc, &fields[k].0, found, &mut left)?;
+        put_field(
+            alloc,
+            reading,
+            meta,
+            &fields[k],
+            above,
+            &records[k],
+            &mut left,
+        )?;
     }
     Ok(left)
+}
+
+// Puts a field that isn't missing after the members. Most fields are numbers that stand alone.
+#[cycle(seen)]
+#[inline(always)]
+fn put_field(
+    alloc: Global,
+    reading: &Reading,
+    meta: &MetaRef,
+    field: &(Text, Node),
+    above: u8,
+    rec: &Record,
+    pairs: &mut Vec<(Text, Tree)>,
+) -> Result<(), Refusal>
+    requires nodes { AreNodes (group_of field.now.1) }
+    requires shape { HasShape (group_of field.now.1) (rec_of rec.now) }
+    requires reading { UnderSome (λ mask leaf. IsReading mask (group_of field.now.1) leaf reading.now) }
+    requires deep { above + nesting (group_of field.now.1) ≤ max_nesting }
+    ensures { (mask : ℕ → Bool) (leaf : ℕ) → IsReading mask (group_of field.now.1) leaf reading.now → Makes (λ none. map pair_seen pairs.new.items) result (with_member (map pair_seen pairs.old.items) field.now.0 (seen mask (names_of meta.now) (group_of field.now.1) leaf above (rec_of rec.now))) }
+{
+    match number_alone(reading, &field.1, rec) {
+        Some(number) => Ok(put_number(alloc, &field.0, number, pairs)?),
+        None => put_seen(alloc, reading, meta, field, above, rec, pairs),
+    }
+}
+
+// The same of any field.
+#[cycle(seen)]
+#[inline(always)]
+fn put_seen(
+    alloc: Global,
+    reading: &Reading,
+    meta: &MetaRef,
+    field: &(Text, Node),
+    above: u8,
+    rec: &Record,
+    pairs: &mut Vec<(Text, Tree)>,
+) -> Result<(), Refusal>
+    requires nodes { AreNodes (group_of field.now.1) }
+    requires shape { HasShape (group_of field.now.1) (rec_of rec.now) }
+    requires reading { UnderSome (λ mask leaf. IsReading mask (group_of field.now.1) leaf reading.now) }
+    requires deep { above + nesting (group_of field.now.1) ≤ max_nesting }
+    ensures { (mask : ℕ → Bool) (leaf : ℕ) → IsReading mask (group_of field.now.1) leaf reading.now → Makes (λ none. map pair_seen pairs.new.items) result (with_member (map pair_seen pairs.old.items) field.now.0 (seen mask (names_of meta.now) (group_of field.now.1) leaf above (rec_of rec.now))) }
+{
+    match seen(alloc, reading, meta, &field.1, above, rec) {
+        Ok(found) => Ok(put_member(alloc, &field.0, found, pairs)?),
+        Err(refused) => Err(refused),
+    }
 }
 
 // A list, beside which no value may stand.
@@ -233,4 +294,37 @@ fn items_seen(
         }
     }
     Ok(Items::from_vec(trees))
+}
+
+/// The members of an object whose fields stand alone: the top of most rows. It answers them bare, since a result that is
+/// wrapped level by level is copied at each.
+pub(crate) fn members_alone(
+    alloc: Global,
+    reading: &Reading,
+    meta: &MetaRef,
+    alone: FieldsAlone,
+    above: u8,
+) -> Result<Members, Refusal>
+    requires object { IsObject (groups_from (map named alone.fields.now)) }
+    requires nodes { EachField HasEither MayHold (groups_from (map named alone.fields.now)) }
+    requires shape { FieldsHaveShape (groups_from (map named alone.fields.now)) (recs_from (map rec_of alone.records.now)) }
+    requires readings { UnderSome (λ mask leaf. AreReadings mask (groups_from (map named alone.fields.now)) 0 leaf (out-Reading reading.now).inside) }
+    requires deep { above + groups_nesting (groups_from (map named alone.fields.now)) + 1 ≤ max_nesting }
+    ensures { (mask : ℕ → Bool) (leaf : ℕ) → AreReadings mask (groups_from (map named alone.entry.fields.now)) 0 leaf (out-Reading reading.now).inside → Makes (λ members. Some (object members)) result (with_fields (groups_from (map named alone.entry.fields.now)) None (fields_seen mask (names_of meta.now) (groups_from (map named alone.entry.fields.now)) leaf (above + 1) (recs_from (map rec_of alone.entry.records.now)))) }
+{
+    let readings = reading.inside.as_slice();
+    let room = Vec::with_capacity(alloc, readings.len().min(FIRST_ROOM))?;
+    let pairs = fields_seen(
+        alloc,
+        readings,
+        meta,
+        alone.fields,
+        above + 1,
+        room,
+        alone.records,
+    )?;
+    match members_of(pairs, reading.moves.as_slice()) {
+        Ok(members) => Ok(members),
+        Err(_) => unreachable!(),
+    }
 }

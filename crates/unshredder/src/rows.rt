@@ -1,22 +1,23 @@
 //! Rows.
 
-ghost use Rattle.std.specs.Prelude.{◌≡◌, ◌+◌, ◌≤◌, IfOk};
+ghost use Rattle.std.specs.Prelude.{◌≡◌, ℕ, ◌+◌, ◌≤◌, Bool, IfOk};
 ghost use Rattle.std.specs.Option.{option_map};
 ghost use Rattle.json_tree.specs.View.{view};
 ghost use Rattle.vs_bytes.specs.Outcome.{Gives, Makes};
 ghost use Rattle.variant_meta.specs.MetaRefs.{names_of};
 ghost use Rattle.shred_schema.specs.Lawful.{IsWellFormed};
 ghost use Rattle.shred_schema.specs.Ranges.{reads};
-ghost use Rattle.shred_schema.specs.Shapes.{RowHasShape};
-ghost use Rattle.shred_schema.specs.Views.{group_of, row_rec_of};
-ghost use Rattle.unshredder.specs.Readings.{IsReading};
-ghost use Rattle.unshredder.specs.Rows.{names_needed, row_seen};
+ghost use Rattle.shred_schema.specs.Shapes.{HasShape, RowHasShape};
+ghost use Rattle.shred_schema.specs.Views.{group_of, rec_of, row_rec_of};
+ghost use Rattle.unshredder.specs.Readings.{IsReading, UnderSome};
+ghost use Rattle.unshredder.specs.Rows.{has_value, names_needed, row_seen};
 
+use crate::alone::fields_alone;
 use crate::needing::has_value;
 use crate::readings::{Reading, reading_of};
-use crate::records::seen;
+use crate::records::{members_alone, seen};
 use json_tree::Tree;
-use shred_schema::{Column, Mask, RowRecord};
+use shred_schema::{Column, Mask, Node, Record, RowRecord};
 use std::alloc::Global;
 use variant_meta::MetaRef;
 use vs_bytes::{NoMemory, Refusal, Rule};
@@ -30,6 +31,20 @@ fn names_needed(needed: bool, meta: &[u8]) -> Result<MetaRef<'_>, Rule>
     } else {
         Ok(MetaRef::without_names())
     }
+}
+
+// Whether a row's names are needed. Most readings of few leaves read no value.
+#[inline(always)]
+#[tactic(auto, using(crate::proofs::NoValueRead::no_value))]
+fn is_needed(reading: &Reading, node: &Node, rec: &Record) -> bool
+    requires shape { HasShape (group_of node.now) (rec_of rec.now) }
+    requires reading { UnderSome (λ mask leaf. IsReading mask (group_of node.now) leaf reading.now) }
+    ensures { (mask : ℕ → Bool) (leaf : ℕ) → IsReading mask (group_of node.now) leaf reading.now → result ≡ has_value mask (group_of node.now) leaf (rec_of rec.now) }
+{
+    if !reading.values {
+        return false;
+    }
+    has_value(reading, node, rec)
 }
 
 impl Reading {
@@ -58,8 +73,13 @@ impl Reading {
         match row {
             RowRecord::Absent => Ok(None),
             RowRecord::Present { meta, rec } => {
-                let needed = has_value(self, &column.node, rec);
+                let needed = is_needed(self, &column.node, rec);
                 let names = names_needed(needed, meta.as_slice())?;
+                // Most rows are such objects. The other way tells the same of them, in more steps.
+                if let Some(alone) = fields_alone(self, &column.node, rec) {
+                    let members = members_alone(alloc, self, &names, alone, 0)?;
+                    return Ok(Some(Tree::Object(members)));
+                }
                 match seen(alloc, self, &names, &column.node, 0, rec)? {
                     Some(tree) => Ok(Some(tree)),
                     None => Ok(Some(Tree::Null)),

@@ -1,4 +1,5 @@
-use Rattle.std.proofs.Common.{◌≡◌, ◌∙◌, ◌+◌, refl, sym, ap, ◌<◌, length, map, option_map, rules, arith, Vec, Global}
+use Rattle.std.proofs.lemmas.Result.{err_from_is_err_and}
+use Rattle.std.proofs.Common.{◌≡◌, ◌∙◌, ◌+◌, refl, sym, ap, ◌<◌, length, map, option_map, [], rules, arith, Vec, Global}
 use Rattle.json_tree.specs.View.{view, seen as pair_seen}
 use Rattle.json_tree.specs.declared.types.Tree.{Tree}
 use Rattle.vs_bytes.specs.declared.utf8_text.Text.{Text}
@@ -8,11 +9,12 @@ use Rattle.shred_schema.specs.Groups.{list_of, object_of, groups_from, kind_nest
 use Rattle.shred_schema.specs.Recs.{items, fields, recs_from}
 use Rattle.shred_schema.specs.Views.{group_of, kind_of, part_of, part_or_empty, rec_of, named}
 use Rattle.shred_schema.proofs.Viewed.{kind_is_list, kind_is_object}
-use Rattle.unshredder.proofs.Ahead.{turned, refused_left, nothing_left, passes_seen, items_whole}
+use Rattle.unshredder.proofs.Ahead.{nothing_left, passes_seen, items_whole}
 use Rattle.unshredder.specs.declared.readings.Reading.{out-Reading}
 use Rattle.unshredder.proofs.Apart.{not_repeated}
-use Rattle.unshredder.proofs.NextRead.{next_read, all_read}
+use Rattle.unshredder.proofs.NextRead.{next_read, next_field, all_read}
 use Rattle.unshredder.proofs.NodesRead.{of_element, of_fields}
+use Rattle.unshredder.proofs.OneMore.{put_turned, put_refused}
 use Rattle.unshredder.proofs.Parts.{list_nodes, list_shape, list_deep, object_nodes, object_shape, object_deep, part_items, part_fields}
 use Rattle.unshredder.proofs.records.+seen.Goals as goal
 
@@ -70,19 +72,6 @@ fields_seen-offset_bounds-fields-k t c =
     let within : (out-Reading c.reading-item.result).place < length c.args.fields.now = next.is_field in
     search rules
 
-pub fields_seen-bounds-fields-k-in-loop-reading : goal.fields_seen-bounds-fields-k-in-loop-reading
-fields_seen-bounds-fields-k-in-loop-reading t c =
-    let some = c.requires.readings in
-    let next = next_read _ _ c.args.fields.now c.args.records.now c.args.readings.now c.loop-reading.reading-index c.reading-item.result (passes_seen _ _ _ _ _ _) (c.loop-reading.invariant some.mask some.leaf some.holds) (omega (arith, c.loop-reading-test.true)) c.reading-item.is in
-    next.is_field
-
-pub fields_seen-offset_bounds-fields-k-in-loop-reading : goal.fields_seen-offset_bounds-fields-k-in-loop-reading
-fields_seen-offset_bounds-fields-k-in-loop-reading t c =
-    let some = c.requires.readings in
-    let next = next_read _ _ c.args.fields.now c.args.records.now c.args.readings.now c.loop-reading.reading-index c.reading-item.result (passes_seen _ _ _ _ _ _) (c.loop-reading.invariant some.mask some.leaf some.holds) (omega (arith, c.loop-reading-test.true)) c.reading-item.is in
-    let within : (out-Reading c.reading-item.result).place < length c.args.fields.now = next.is_field in
-    search rules
-
 pub fields_seen-bounds-records-k : goal.fields_seen-bounds-records-k
 fields_seen-bounds-records-k t c =
     let some = c.requires.readings in
@@ -96,30 +85,31 @@ fields_seen-offset_bounds-records-k t c =
     let within : (out-Reading c.reading-item.result).place < length c.args.records.now = next.is_record in
     search rules
 
-pub fields_seen-seen-requires : goal.fields_seen-seen-requires
-fields_seen-seen-requires t c =
+pub fields_seen-put_field-requires : goal.fields_seen-put_field-requires
+fields_seen-put_field-requires t c =
     let some = c.requires.readings in
-    let next = next_read _ _ c.args.fields.now c.args.records.now c.args.readings.now c.loop-reading.reading-index c.reading-item.result (passes_seen _ _ _ _ _ _) (c.loop-reading.invariant some.mask some.leaf some.holds) (omega (arith, c.loop-reading-test.true)) c.reading-item.is in
-    let left = next.left c.index-fields-k.result c.index-fields-k.result c.index-records-k.result c.index-records-k.is in
-    (omega (arith, left.inside), (left.nodes.0, (left.shape.0, (record { mask = some.mask; leaf = next.first; holds = next.here c.index-fields-k.result }, omega (arith, left.inside, c.requires.deep)))))
+    let next = next_field _ _ _ _ _ _ _ c.index-fields-k.result (next_read _ _ c.args.fields.now c.args.records.now c.args.readings.now c.loop-reading.reading-index c.reading-item.result (passes_seen _ _ _ _ _ _) (c.loop-reading.invariant some.mask some.leaf some.holds) (omega (arith, c.loop-reading-test.true)) c.reading-item.is) c.index-fields-k.is in
+    let left = next.left c.index-records-k.result c.index-records-k.is in
+    (omega (arith, left.inside), (left.nodes.0, (left.shape.0, (record { mask = some.mask; leaf = next.first; holds = next.here }, omega (arith, left.inside, c.requires.deep)))))
 
-pub fields_seen-returns-in-Err : goal.fields_seen-returns-in-Err
-fields_seen-returns-in-Err t c =
+pub fields_seen-returns-in_err-put_field : goal.fields_seen-returns-in_err-put_field
+fields_seen-returns-in_err-put_field t c =
     λ mask leaf are.
-    let next = next_read _ _ c.args.fields.now c.args.records.now c.args.readings.now c.loop-reading.reading-index c.reading-item.result (passes_seen _ _ _ _ _ _) (c.loop-reading.invariant mask leaf are) (omega (arith, c.loop-reading-test.true)) c.reading-item.is in
-    let left = next.left c.index-fields-k.result c.index-fields-k.result c.index-records-k.result c.index-records-k.is in
-    refused_left {A = Vec (Text × Tree) Global} (λ pairs. map pair_seen pairs.items) _ _ _ _ _ _ _ _ _ _ _ _ _ left (c.in-Err.ensures mask _ (next.here c.index-fields-k.result))
+    let next = next_field _ _ _ _ _ _ _ c.index-fields-k.result (next_read _ _ c.args.fields.now c.args.records.now c.args.readings.now c.loop-reading.reading-index c.reading-item.result (passes_seen _ _ _ _ _ _) (c.loop-reading.invariant mask leaf are) (omega (arith, c.loop-reading-test.true)) c.reading-item.is) c.index-fields-k.is in
+    let left = next.left c.index-records-k.result c.index-records-k.is in
+    let fault = err_from_is_err_and c.from_residual.result c.from_residual.ensures.1 in
+    rw (fault.1, fault.2) (put_refused {A = Vec (Text × Tree) Global} {B = Text} (λ pairs. map pair_seen pairs.items) (λ none. []) _ _ _ _ _ _ _ _ _ _ _ _ _ left (c.in_err-put_field.ensures mask _ next.here))
 
 pub fields_seen-loop-reading-preserved : goal.fields_seen-loop-reading-preserved
 fields_seen-loop-reading-preserved t c =
     λ mask leaf are.
-    let next = next_read _ _ c.args.fields.now c.args.records.now c.args.readings.now c.loop-reading.reading-index c.reading-item.result (passes_seen _ _ _ _ _ _) (c.loop-reading.invariant mask leaf are) (omega (arith, c.loop-reading-test.true)) c.reading-item.is in
-    let left = next.left c.index-fields-k-in-loop-reading.result c.index-fields-k.result c.index-records-k.result c.index-records-k.is in
+    let next = next_field _ _ _ _ _ _ _ c.index-fields-k.result (next_read _ _ c.args.fields.now c.args.records.now c.args.readings.now c.loop-reading.reading-index c.reading-item.result (passes_seen _ _ _ _ _ _) (c.loop-reading.invariant mask leaf are) (omega (arith, c.loop-reading-test.true)) c.reading-item.is) c.index-fields-k.is in
+    let left = next.left c.index-records-k.result c.index-records-k.is in
     record {
       place = (out-Reading c.reading-item.result).place + 1;
       first = _;
-      left = rw c.in_ok-put_member.ensures (turned _ _ _ _ _ _ _ _ _ _ _ _ (option_map view c.in-Ok.found) left (c.in-Ok.ensures mask _ (next.here c.index-fields-k.result)));
-      readings = next.more c.index-fields-k.result;
+      left = put_turned _ _ _ _ _ _ _ _ _ _ _ _ _ left (c.in_ok-put_field.ensures mask _ next.here);
+      readings = next.more;
     }
 
 pub fields_seen-returns : goal.fields_seen-returns

@@ -14,22 +14,28 @@ use Rattle.unshredder.proofs.records.+seen.Given as goal
 -- a node, its typed part, what is inside it, and back to a node
 
 abbrev pub decreases-seen : goal.decreases-seen
-decreases-seen l = 5 * nesting (group_of l.node.now) + 2
+decreases-seen l = 10 * nesting (group_of l.node.now) + 3
 
 abbrev pub decreases-typed_seen : goal.decreases-typed_seen
-decreases-typed_seen l = 5 * kind_nesting (kind_of l.typed.now) + 1
+decreases-typed_seen l = 10 * kind_nesting (kind_of l.typed.now) + 1
 
 abbrev pub decreases-with_fields : goal.decreases-with_fields
-decreases-with_fields l = 5 * groups_nesting (groups_from (map named l.fields.now)) + 4
+decreases-with_fields l = 10 * groups_nesting (groups_from (map named l.fields.now)) + 8
 
 abbrev pub decreases-fields_seen : goal.decreases-fields_seen
-decreases-fields_seen l = 5 * groups_nesting (groups_from (map named l.fields.now)) + 3
+decreases-fields_seen l = 10 * groups_nesting (groups_from (map named l.fields.now)) + 7
+
+abbrev pub decreases-put_field : goal.decreases-put_field
+decreases-put_field l = 10 * nesting (group_of l.field.now.1) + 5
+
+abbrev pub decreases-put_seen : goal.decreases-put_seen
+decreases-put_seen l = 10 * nesting (group_of l.field.now.1) + 4
 
 abbrev pub decreases-with_items : goal.decreases-with_items
-decreases-with_items l = 5 * nesting (group_of l.node.now) + 4
+decreases-with_items l = 10 * nesting (group_of l.node.now) + 8
 
 abbrev pub decreases-items_seen : goal.decreases-items_seen
-decreases-items_seen l = 5 * nesting (group_of l.node.now) + 3
+decreases-items_seen l = 10 * nesting (group_of l.node.now) + 7
 
 abbrev pub invariant-fields_seen-loop-reading : goal.invariant-fields_seen-loop-reading
 invariant-fields_seen-loop-reading l = (mask : ℕ → Bool) (leaf : ℕ) → AreReadings mask (groups_from (map named l.fields)) 0 leaf l.readings
