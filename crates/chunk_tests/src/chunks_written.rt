@@ -62,7 +62,7 @@ fn two_pages(alloc: Global) -> Result<Bytes, NoMemory> {
 // How many entries the next page has, and 0 at the end or of a rule.
 fn next_len(alloc: Global, reader: &mut ChunkReader) -> usize {
     match reader.next(alloc) {
-        Ok(Some(entries)) => entries.len(),
+        Ok(Some(page)) => page.len(),
         _ => 0,
     }
 }

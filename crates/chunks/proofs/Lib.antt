@@ -6,3 +6,4 @@ pub mod PagesInTurn
 pub mod PagesWritten
 pub mod Samples
 pub mod Weights
+mod PiecesGiven

@@ -1,2 +1,4 @@
 pub mod PageCuts
 pub mod Turns
+pub mod RowStarts
+pub mod Pieces

@@ -1,13 +1,15 @@
 //! A chunk's entries, page by page.
 
-ghost use Rattle.std.specs.Prelude.{◌≡◌, ◌++◌, ◌<◌, length, Some, IfOk, IfSome, OnOk, OnErr};
+ghost use Rattle.std.specs.Prelude.{◌≡◌, ◌<◌, length, Some, IfOk, IfSome, OnErr};
 ghost use Rattle.vs_bytes.specs.Outcome.{Makes};
 ghost use Rattle.chunks.specs.Turns.{standing, next_of, entries_of};
 
+use crate::chunk_entries::{ChunkEntries, keep};
 use crate::page_walk::next_page;
+use pages::OpenPage;
 use std::alloc::Global;
 use std::marker::Model;
-use vs_bytes::{Bytes, Entry, EntryList, Leaf, NoMemory, Refusal, Refused};
+use vs_bytes::{Bytes, Leaf, Refusal, Refused};
 
 /// A reader of the entries of a column chunk, page by page.
 ///
@@ -45,12 +47,12 @@ impl ChunkReader {
         }
     }
 
-    /// The entries of the next page that has any place for them, or `None` after the last. Index pages are passed
-    /// over.
+    /// The next data page, judged whole, or `None` after the last. Index pages are passed over. Of its entries none is
+    /// made yet but truth values.
     ///
     /// The rules of a page are found with it, and `ValueCount` at the end: the entries aren't as many as `new` was
     /// told. After an `Err` the reader stands where it stood.
-    pub fn next(&mut self, alloc: Global) -> Result<Option<EntryList>, Refusal>
+    pub fn next(&mut self, alloc: Global) -> Result<Option<OpenPage>, Refusal>
         ensures exact { Makes (λ entries. (entries, self.new)) result (next_of self.old) }
         ensures more { IfOk result (λ entries. IfSome entries (λ _. length self.new.rest < length self.old.rest)) }
         ensures err { OnErr result (self.new ≡ self.old) }
@@ -64,8 +66,9 @@ impl ChunkReader {
             Err(refusal) => Err(refusal),
         }
     }
-    /// All entries that are still to come, or the first rule that is violated.
-    pub fn into_entries(self, alloc: Global) -> Result<EntryList, Refusal>
+
+    /// All entries that are still to come, or the first rule that is violated. None is made yet but truth values.
+    pub fn into_entries(self, alloc: Global) -> Result<ChunkEntries, Refusal>
         ensures exact { Makes (λ entries. entries) result (entries_of self) }
     {
         let mut reader = self;
@@ -73,22 +76,14 @@ impl ChunkReader {
         loop {
             match reader.next(alloc) {
                 Ok(page) => match page {
-                    Some(entries) => match append(&mut found, entries) {
+                    Some(page) => match keep(&mut found, page) {
                         Ok(()) => {}
                         Err(_) => return Err(Refused::NoMemory),
                     },
-                    None => return Ok(EntryList::from_vec(found)),
+                    None => return Ok(ChunkEntries::of_pages(found)),
                 },
                 Err(refusal) => return Err(refusal),
             }
         }
     }
-}
-
-fn append(found: &mut Vec<Entry>, entries: EntryList) -> Result<(), NoMemory>
-    ensures { OnOk result (found.new.items ≡ found.old.items ++ entries) }
-{
-    let mut page = entries.into_vec();
-    found.append(&mut page)?;
-    Ok(())
 }

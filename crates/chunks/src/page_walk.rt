@@ -4,10 +4,10 @@ ghost use Rattle.std.specs.Prelude.{◌≡◌, ◌<◌, ◌≤◌, drop, length,
 ghost use Rattle.vs_bytes.specs.Outcome.{Makes};
 ghost use Rattle.chunks.specs.Turns.{body_len, entries_at, page_after, page_at, less, standing, next_of};
 
-use pages::read_page;
+use pages::{OpenPage, open_page};
 use std::alloc::Global;
 use thrift_compact::{PageHeader, read_page_header};
-use vs_bytes::{EntryList, Leaf, Refusal, Refused, Rule, part, rest};
+use vs_bytes::{Leaf, Refusal, Refused, Rule, part, rest};
 
 // A kind of page (parquet.thrift, PageType).
 const INDEX_PAGE: i32 = 1;
@@ -18,13 +18,13 @@ fn entries_at(
     leaf: &Leaf,
     header: &PageHeader,
     body: &[u8],
-) -> Result<Option<EntryList>, Refusal>
+) -> Result<Option<OpenPage>, Refusal>
     ensures exact { Makes (λ entries. entries) result (entries_at leaf.now header.now body.now) }
 {
     if header.kind == INDEX_PAGE {
         return Ok(None);
     }
-    match read_page(alloc, leaf, header, body) {
+    match open_page(alloc, leaf, header, body) {
         Ok(entries) => Ok(Some(entries)),
         Err(refusal) => Err(refusal),
     }
@@ -47,7 +47,7 @@ fn page_after(
     header: &PageHeader,
     used: usize,
     bytes: &[u8],
-) -> Result<(Option<EntryList>, usize), Refusal>
+) -> Result<(Option<OpenPage>, usize), Refusal>
     requires { used ≤ length bytes.now }
     ensures exact { Makes (λ page. page) result (page_after leaf.now header.now used bytes.now) }
     ensures least { IfOk result (λ page. used ≤ page.1) }
@@ -65,7 +65,7 @@ fn page_after(
 
 // The page at the front, and how many bytes it takes.
 #[tactic(auto, unfolding(crate::specs::Turns::page_at))]
-fn page_at(alloc: Global, leaf: &Leaf, bytes: &[u8]) -> Result<(Option<EntryList>, usize), Refusal>
+fn page_at(alloc: Global, leaf: &Leaf, bytes: &[u8]) -> Result<(Option<OpenPage>, usize), Refusal>
     ensures exact { Makes (λ page. page) result (page_at leaf.now bytes.now) }
     ensures least { IfOk result (λ page. 1 ≤ page.1) }
     ensures within { IfOk result (λ page. page.1 ≤ length bytes.now) }
@@ -94,7 +94,7 @@ pub(crate) fn next_page(
     left: Option<u64>,
     bytes: &[u8],
     from: usize,
-) -> Result<(Option<EntryList>, Option<u64>, usize), Refusal>
+) -> Result<(Option<OpenPage>, Option<u64>, usize), Refusal>
     requires { from ≤ length bytes.now }
     ensures exact { Makes (λ turn. (turn.0, standing leaf.now turn.1 (drop turn.2 bytes.now))) result (next_of (standing leaf.now left (drop from bytes.now))) }
     ensures more { IfOk result (λ turn. IfSome turn.0 (λ _. from < turn.2)) }

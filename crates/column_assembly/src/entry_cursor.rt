@@ -40,17 +40,18 @@ impl Cursor {
         }
     }
 
-    /// Puts more entries after those that are left, and moves them: no value is copied. What `more` holds after an
-    /// `Ok` is open. After an `Err` nothing has changed.
+    /// Puts more entries after those that are left, and moves them: no value is copied. The room of those that were taken
+    /// is let go. What `more` holds after an `Ok` is open. After an `Err` nothing has changed.
     pub fn feed(&mut self, alloc: Global, more: &mut EntryList) -> Result<(), NoMemory>
         ensures ok { OnOk result (self.new ≡ self.old ++ more.old) }
         ensures err { OnErr result (self.new ≡ self.old) }
         ensures kept { OnErr result (more.new ≡ more.old) }
     {
+        let_go(&mut self.entries, self.at)?;
+        self.at = 0;
         let mut entries = mem::replace(more, Sequence::new(alloc)).into_vec();
-        if self.at == self.entries.len() {
+        if self.entries.is_empty() {
             self.entries = entries;
-            self.at = 0;
             return Ok(());
         }
         let appended = self.entries.append(&mut entries);
@@ -170,4 +171,18 @@ impl Cursor {
     {
         &self.entries[self.at..]
     }
+}
+
+// Lets the first `count` entries go, so that those that were taken don't pile up.
+fn let_go(entries: &mut Vec<Entry>, count: usize) -> Result<(), NoMemory>
+    requires { count ≤ length entries.old.items }
+    ensures ok { OnOk result (entries.new.items ≡ drop count entries.old.items) }
+    ensures err { OnErr result (entries.new ≡ entries.old) }
+{
+    if count == 0 {
+        return Ok(());
+    }
+    let left = entries.split_off(count)?;
+    *entries = left;
+    Ok(())
 }

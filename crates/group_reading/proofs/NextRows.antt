@@ -1,5 +1,5 @@
 -- What an assembler answers, as the row of a group.
-use Rattle.std.proofs.Common.{◌≡◌, ◌∙◌, sym, ap, subst, ℕ, Bool, List, Option, None, Some, Result, Err, ◌⊎◌, inl, inr}
+use Rattle.std.proofs.Common.{sym, subst, ℕ, Bool, List, Option, Result, Ok, Err}
 use Rattle.std.specs.Option.{option_map}
 use Rattle.json_tree.specs.Json.{Json}
 use Rattle.json_tree.specs.View.{view}
@@ -15,9 +15,11 @@ use Rattle.shred_schema.specs.Shapes.{RowIsOf, RowHasShape}
 use Rattle.shred_schema.proofs.ShapeFacts.{has_shape}
 use Rattle.record_assembly.specs.Shown.{row_shown}
 use Rattle.unshredder.specs.Rows.{row_seen}
-use Rattle.row_assembler.specs.Assembly.{Assembly, IsRefused, Refuses, GivesRow, left}
+use Rattle.row_assembler.specs.Assembly.{Assembly, GivesRow}
+use Rattle.vs_bytes.specs.declared.leaf_columns.Entry.{Entry}
+use Rattle.group_reading.specs.Filling.{Taken, TakesNone}
 use Rattle.group_reading.specs.GroupRows.{next_seen}
-use Rattle.group_reading.proofs.RowsAhead.{record_seen, no_record}
+use Rattle.group_reading.proofs.RowsAhead.{record_seen}
 use Rattle.group_reading.proofs.ShownShapes.{shown_shape}
 
 -- what a mask leaves of a row has the shape of the column
@@ -30,21 +32,12 @@ row_shape o n mask a b row gives =
     subst (RowHasShape n) gives.left_of.left (shown_row o n (reads mask) gives.left_of.one gives.left_of.of)
 
 -- the row of a record is the next row
-pub row_makes : (o : Bool) (n : Group) (mask : List Bool) (a b : Assembly) (row : RowRec) (result : Result (Option Tree) (Refused Rule)) → GivesRow a b o n mask row →
-    Makes (option_map view) result (row_seen (reads mask) n row) → Makes (option_map view) result (next_seen (reads mask) o n (left a))
-row_makes o n mask a b row result gives made =
-    subst (λ (defined : Result (Option Json) Rule). Makes (option_map view) result defined) (sym (record_seen (reads mask) o n (left a) row gives.read)) made
+pub row_makes : (o : Bool) (n : Group) (mask : List Bool) (es : ℕ → List Entry) (b : Assembly) (later : List (List Entry)) (row : RowRec) (result : Result (Option Tree) (Refused Rule)) → Taken o n mask es b later row →
+    Makes (option_map view) result (row_seen (reads mask) n row) → Makes (option_map view) result (next_seen (reads mask) o n es)
+row_makes o n mask es b later row result taken made =
+    subst (λ (defined : Result (Option Json) Rule). Makes (option_map view) result defined) (sym (record_seen (reads mask) o n es (Ok row) taken.found)) made
 
--- a refusal that came of the row itself
-row_refused : (o : Bool) (n : Group) (mask : List Bool) (a : Assembly) (refusal : Refused Rule) → IsRefused a o n mask refusal →
-    Makes {A = Option Tree} {B = Option Json} (option_map view) (Err refusal) (next_seen (reads mask) o n (left a))
-row_refused o n mask a (Fault broken) why = no_record (reads mask) o n (left a) why.1.read ∙ ap (λ (x : Rule). Err x) (sym why.0)
-row_refused o n mask a NoMemory why = tt
-
-pub refusal_makes : (o : Bool) (n : Group) (mask : List Bool) (a b : Assembly) (refusal : Refused Rule) → a.stop ≡ None → Refuses a b o n mask refusal →
-    Makes {A = Option Tree} {B = Option Json} (option_map view) (Err refusal) (next_seen (reads mask) o n (left a))
-refusal_makes o n mask a b refusal going h = by h.why
-  where
-    by : (a.stop ≡ Some refusal) ⊎ IsRefused a o n mask refusal → Makes {A = Option Tree} {B = Option Json} (option_map view) (Err refusal) (next_seen (reads mask) o n (left a))
-    by (inl stopped) = let wrong : None ≡ Some refusal = sym going ∙ stopped in absurd cc
-    by (inr why) = row_refused o n mask a refusal why
+pub none_makes : (o : Bool) (n : Group) (mask : List Bool) (es : ℕ → List Entry) (refusal : Refused Rule) → TakesNone o n mask es refusal →
+    Makes {A = Option Tree} {B = Option Json} (option_map view) (Err refusal) (next_seen (reads mask) o n es)
+none_makes o n mask es (Fault broken) none = record_seen (reads mask) o n es (Err broken) none
+none_makes o n mask es NoMemory none = tt

@@ -1,5 +1,5 @@
 -- The rows of a group, row by row.
-use Rattle.std.proofs.Common.{◌≡◌, refl, sym, ap, ℕ, zero, suc, ◌+◌, Bool, true, false, List, [], ◌∷◌, Option, None, Some, Ok, Err}
+use Rattle.std.proofs.Common.{◌≡◌, refl, sym, ap, ℕ, zero, suc, ◌+◌, Bool, true, false, List, [], ◌∷◌, Option, None, Some, Result, Ok, Err}
 use Rattle.json_tree.specs.Json.{Json}
 use Rattle.vs_bytes.specs.Outcome.{◌>>=◌}
 use Rattle.vs_bytes.specs.declared.leaf_columns.Entry.{Entry}
@@ -15,7 +15,7 @@ use Rattle.record_assembly.proofs.Same.{row_same}
 use Rattle.shred_schema.specs.Ranges.{none_read}
 use Rattle.unshredder.specs.Rows.{row_seen}
 use Rattle.group_reading.specs.declared.group_faults.PlaceInGroup.TheVariants as place
-use Rattle.group_reading.specs.GroupRows.{at_place, or_mismatch, next_seen, rows_seen}
+use Rattle.group_reading.specs.GroupRows.{at_place, or_mismatch, next_record, next_seen, rows_seen}
 
 -- entries that agree in the leaves that are read give the same row, and the same rows
 
@@ -54,10 +54,12 @@ row_refused mask o n left k es broken next =
 
 -- one row, by its record
 
-pub record_seen : (mask : ℕ → Bool) (o : Bool) (n : Group) (es : ℕ → List Entry) (x : RowRec) → row_read o n mask 0 (λ j. first_item 0 (es j)) ≡ Some x → next_seen mask o n es ≡ row_seen mask n x
-unfolding next_seen
-record_seen mask o n es x read = ap (λ (row : Option RowRec). or_mismatch row >>= row_seen mask n) read
+pub record_found : (mask : ℕ → Bool) (o : Bool) (n : Group) (es : ℕ → List Entry) (x : RowRec) → row_read o n mask 0 (λ j. first_item 0 (es j)) ≡ Some x → next_record mask o n es ≡ Ok x
+record_found mask o n es x read = ap or_mismatch read
 
-pub no_record : (mask : ℕ → Bool) (o : Bool) (n : Group) (es : ℕ → List Entry) → row_read o n mask 0 (λ j. first_item 0 (es j)) ≡ None → next_seen mask o n es ≡ Err rule.LevelMismatch
+pub no_record : (mask : ℕ → Bool) (o : Bool) (n : Group) (es : ℕ → List Entry) → row_read o n mask 0 (λ j. first_item 0 (es j)) ≡ None → next_record mask o n es ≡ Err rule.LevelMismatch
+no_record mask o n es read = ap or_mismatch read
+
+pub record_seen : (mask : ℕ → Bool) (o : Bool) (n : Group) (es : ℕ → List Entry) (found : Result RowRec Rule) → next_record mask o n es ≡ found → next_seen mask o n es ≡ (found >>= row_seen mask n)
 unfolding next_seen
-no_record mask o n es read = ap (λ (row : Option RowRec). or_mismatch row >>= row_seen mask n) read
+record_seen mask o n es found is = ap (λ (row : Result RowRec Rule). row >>= row_seen mask n) is

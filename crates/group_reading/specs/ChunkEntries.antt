@@ -1,25 +1,13 @@
 -- The entries of a chunk in a row group. An entry of repetition level 0 begins a row (the parquet-format README, "Nested
 -- Encoding"), and a chunk has an entry or more for each row of its group (parquet.thrift, RowGroup).
-use Rattle.std.specs.Prelude.{ℕ, ◌==◌, Bool, true, ◌&&◌, if◌then◌else◌, List, [], ◌∷◌, count_by, Some, Result, Ok, Err}
+use Rattle.std.specs.Prelude.{ℕ, if◌then◌else◌, List, Some, Result, Ok, Err}
 use Rattle.vs_bytes.specs.Outcome.{◌>>=◌}
 use Rattle.vs_bytes.specs.declared.leaf_columns.Entry.{Entry}
 use Rattle.vs_bytes.specs.declared.leaf_columns.Leaf.{Leaf}
 use Rattle.vs_bytes.specs.declared.rule.Rule.{Rule}
 use Rattle.vs_bytes.specs.declared.rule.Rule.TheVariants as rule
 use Rattle.chunks.specs.Turns.{standing, entries_of}
-
--- how many rows begin in entries
-abbrev pub row_starts : List Entry → ℕ
-row_starts entries = count_by (λ e. e.rep == 0) entries
-
--- entries begin with a row
-abbrev pub begins_row : List Entry → Bool
-begins_row [] = true
-begins_row (e ∷ es) = e.rep == 0
-
--- entries are those of so many rows
-abbrev pub has_rows : ℕ → List Entry → Bool
-has_rows rows entries = begins_row entries && (row_starts entries == rows)
+pub use Rattle.chunks.specs.RowStarts.{row_starts, begins_row, has_rows}
 
 abbrev pub with_rows : ℕ → List Entry → Result (List Entry) Rule
 with_rows rows entries = if has_rows rows entries then Ok entries else Err rule.RowCount

@@ -27,9 +27,13 @@ abbrev pub or_mismatch : Option RowRec → Result RowRec Rule
 or_mismatch None = Err rule.LevelMismatch
 or_mismatch (Some row) = Ok row
 
--- the row at the front of all leaves' entries, where a mask says which leaves are read
+-- the row record at the front of all leaves' entries, where a mask says which leaves are read
+abbrev pub next_record : (ℕ → Bool) → Bool → Group → (ℕ → List Entry) → Result RowRec Rule
+next_record mask optional n es = or_mismatch (row_read optional n mask 0 (λ j. first_item 0 (es j)))
+
+-- the row there
 unfoldable pub next_seen : (ℕ → Bool) → Bool → Group → (ℕ → List Entry) → Result (Option Json) Rule
-next_seen mask optional n es = or_mismatch (row_read optional n mask 0 (λ j. first_item 0 (es j))) >>= row_seen mask n
+next_seen mask optional n es = next_record mask optional n es >>= row_seen mask n
 
 -- `count` rows, of which the first is row k
 unfoldable pub rows_seen : (ℕ → Bool) → Bool → Group → ℕ → ℕ → (ℕ → List Entry) → Result (List (Option Json)) GroupFault

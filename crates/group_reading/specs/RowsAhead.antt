@@ -1,5 +1,5 @@
 -- The rows of a group that are still to come.
-use Rattle.std.specs.Prelude.{◌≡◌, ℕ, ◌+◌, ◌==◌, ◌++◌, ◌^◌, ◌<◌, Bool, true, false, List, [], ◌∷◌, Option, Some, None, Result, Ok, Err}
+use Rattle.std.specs.Prelude.{◌≡◌, ℕ, ◌+◌, ◌^◌, ◌<◌, Bool, true, List, [], ◌∷◌, Option, Some, None, Result, Ok, Err}
 use Rattle.std.specs.Option.{option_map}
 use Rattle.json_tree.specs.Json.{Json}
 use Rattle.json_tree.specs.View.{view}
@@ -8,12 +8,11 @@ use Rattle.vs_bytes.specs.declared.refused.Refused.{Refused}
 use Rattle.vs_bytes.specs.declared.refused.Refused.TheVariants.{Fault, NoMemory}
 use Rattle.vs_bytes.specs.Outcome.{◌>>=◌}
 use Rattle.shred_schema.specs.Groups.{Group, width}
-use Rattle.shred_schema.specs.Ranges.{is_among, reads, none_read}
+use Rattle.shred_schema.specs.Ranges.{is_among, reads}
 use Rattle.unshredder.specs.Readings.{IsReading}
-use Rattle.row_assembler.specs.Assembly.{Assembly, IsFor, left}
-use Rattle.vs_bytes.specs.declared.leaf_columns.Entry.{Entry}
 use Rattle.group_reading.specs.ChunkEntries.{has_rows}
 use Rattle.group_reading.specs.GroupRows.{rows_seen}
+use Rattle.group_reading.specs.Filling.{joined, Held}
 use Rattle.vs_bytes.specs.declared.rule.Rule.{Rule}
 use Rattle.group_reading.specs.declared.group_faults.GroupFault.{GroupFault}
 use Rattle.group_reading.specs.declared.group_faults.PlaceInGroup.TheVariants as place
@@ -21,24 +20,14 @@ use Rattle.group_reading.specs.declared.group_rows.GroupRows.{GroupRows}
 
 -- the rows, or the first rule that they violate
 unfoldable pub rows_ahead : (ℕ → Bool) → Bool → Group → GroupRows → Result (List (Option Json)) GroupFault
-rows_ahead mask optional n g = rows_seen mask optional n g.left g.row (left g.assembler)
+rows_ahead mask optional n g = rows_seen mask optional n g.left g.row (joined g.assembler g.leaves.items)
 
 -- the rows are of this column, under this mask, and each leaf that is read has the entries of all of them
 pub record StandsFor (optional : Bool) (n : Group) (mask : List Bool) (g : GroupRows) : Type 0 where
-  pub column : IsFor g.assembler optional n mask
+  pub held : Held optional n mask g.assembler g.leaves.items
   pub reading : IsReading (reads mask) n 1 g.reading
-  pub some : none_read (reads mask) 0 (1 + width n) ≡ false
-  pub ended : g.assembler.ended ≡ true
-  pub goes : g.assembler.stop ≡ None
-  pub rows : (j : ℕ) → is_among j 0 (1 + width n) ≡ true → reads mask j ≡ true → has_rows g.left (left g.assembler j) ≡ true
+  pub rows : (j : ℕ) → is_among j 0 (1 + width n) ≡ true → reads mask j ≡ true → has_rows g.left (joined g.assembler g.leaves.items j) ≡ true
   pub counted : g.row + g.left < 2 ^ 64
-
--- a leaf's entries were put after those that are left, where the leaf is read
-pub record FedLeaf (mask : List Bool) (a b : Assembly) (leaf : ℕ) (entries : List Entry) : Type 0 where
-  pub here : reads mask leaf ≡ true → left b leaf ≡ left a leaf ++ entries
-  pub others : (j : ℕ) → (j == leaf) ≡ false → left b j ≡ left a j
-  pub ended : b.ended ≡ a.ended
-  pub stop : b.stop ≡ a.stop
 
 -- rows with one more before them
 abbrev pub with_row : Option Json → Result (List (Option Json)) GroupFault → Result (List (Option Json)) GroupFault

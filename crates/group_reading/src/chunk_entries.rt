@@ -2,33 +2,11 @@
 
 ghost use Rattle.std.specs.Prelude.{◌≡◌, true, IfOk};
 ghost use Rattle.vs_bytes.specs.Outcome.{Makes};
-ghost use Rattle.group_reading.specs.ChunkEntries.{row_starts, begins_row, has_rows, chunk_entries};
+ghost use Rattle.group_reading.specs.ChunkEntries.{has_rows, chunk_entries};
 
-use chunks::ChunkReader;
+use chunks::{ChunkEntries, ChunkReader};
 use std::alloc::Global;
-use vs_bytes::{Bytes, Entry, EntryList, Leaf, Refusal, Refused, Rule};
-
-// How many rows begin in entries.
-fn row_starts(entries: &[Entry]) -> u64
-    ensures { result ≡ row_starts entries.now }
-{
-    entries.iter().filter(|entry| entry.rep == 0).count() as u64
-}
-
-fn begins_row(entries: &[Entry]) -> bool
-    ensures { result ≡ begins_row entries.now }
-{
-    match entries.split_first() {
-        None => true,
-        Some((entry, _)) => entry.rep == 0,
-    }
-}
-
-fn has_rows(rows: u64, entries: &[Entry]) -> bool
-    ensures { result ≡ has_rows rows entries.now }
-{
-    begins_row(entries) && row_starts(entries) == rows
-}
+use vs_bytes::{Bytes, Leaf, Refusal, Refused, Rule};
 
 /// The entries of a leaf column's chunk, which has `values` of them by its metadata, in a group of `rows` rows; or the
 /// first rule that the chunk violates.
@@ -42,13 +20,13 @@ pub fn read_chunk(
     bytes: Bytes,
     values: u64,
     rows: u64,
-) -> Result<EntryList, Refusal>
+) -> Result<ChunkEntries, Refusal>
     ensures exact { Makes (λ entries. entries) result (chunk_entries leaf.now values rows bytes) }
     ensures rows { IfOk result (λ entries. has_rows rows entries ≡ true) }
 {
     match ChunkReader::new(bytes, *leaf, values).into_entries(alloc) {
         Ok(entries) => {
-            if has_rows(rows, entries.as_slice()) {
+            if entries.has_rows(rows) {
                 Ok(entries)
             } else {
                 Err(Refused::Fault(Rule::RowCount))

@@ -8,74 +8,55 @@ ghost use Rattle.shred_schema.specs.Groups.{width};
 ghost use Rattle.shred_schema.specs.Lawful.{IsWellFormed};
 ghost use Rattle.shred_schema.specs.Ranges.{is_among, reads, none_read};
 ghost use Rattle.shred_schema.specs.Views.{group_of};
-ghost use Rattle.row_assembler.specs.Assembly.{IsFor, Passes, has_row, left};
+ghost use Rattle.record_assembly.specs.Cuts.{is_nil, later_items};
 ghost use Rattle.unshredder.specs.Readings.{IsReading};
 ghost use Rattle.group_reading.specs.ChunkEntries.{has_rows};
 ghost use Rattle.group_reading.specs.GroupRows.{next_seen, rows_seen};
-ghost use Rattle.group_reading.specs.RowsAhead.{rows_ahead, StandsFor, FedLeaf, at_row, NextRow};
+ghost use Rattle.group_reading.specs.RowsAhead.{rows_ahead, StandsFor, at_row, NextRow};
+ghost use Rattle.group_reading.specs.Filling.{joined, Held};
 
 use crate::group_faults::{GroupFault, PlaceInGroup};
+use crate::row_taking::take_row;
+use chunks::ChunkEntries;
 use json_tree::Tree;
 use row_assembler::Assembler;
 use shred_schema::{Column, Mask};
 use std::alloc::Global;
 use unshredder::Reading;
-use vs_bytes::{EntryList, NoMemory, Refusal, Refused, Sequence};
+use vs_bytes::{NoMemory, Refusal, Refused, Sequence};
 
 /// The rows of a row group that are still to come.
 #[derive(Drop)]
 pub struct GroupRows {
     assembler: Assembler,
+    // What the assembler wasn't fed yet.
+    leaves: Vec<ChunkEntries>,
     reading: Reading,
     row: u64,
     left: u64,
 }
 
-// The next row, whose entries are there in each leaf that is read.
+// The next row.
+#[tactic(auto, using(crate::proofs::NextRows::row_makes, crate::proofs::NextRows::none_makes))]
 fn next_row(
     alloc: Global,
     assembler: &mut Assembler,
+    chunks: &mut [ChunkEntries],
     reading: &Reading,
     column: &Column,
     mask: &Mask,
 ) -> Result<Option<Tree>, Refusal>
     requires well { IsWellFormed (group_of column.now.node) }
     requires reading { IsReading (reads mask.now) (group_of column.now.node) 1 reading.now }
-    requires column { IsFor assembler.old column.now.optional (group_of column.now.node) mask.now }
-    requires goes { assembler.old.stop ≡ None }
-    requires whole { has_row assembler.old (group_of column.now.node) mask.now ≡ true }
-    ensures exact { Makes (option_map view) result (next_seen (reads mask.now) column.now.optional (group_of column.now.node) (left assembler.old)) }
-    ensures column { IsFor assembler.new column.now.optional (group_of column.now.node) mask.now }
-    ensures passes { OnOk result (Passes assembler.old assembler.new (group_of column.now.node) mask.now) }
+    requires held { Held column.now.optional (group_of column.now.node) mask.now assembler.old chunks.old }
+    requires some { (j : ℕ) → is_among j 0 (1 + width (group_of column.now.node)) ≡ true → reads mask.now j ≡ true → is_nil (joined assembler.old chunks.old j) ≡ false }
+    ensures exact { Makes (option_map view) result (next_seen (reads mask.now) column.now.optional (group_of column.now.node) (joined assembler.old chunks.old)) }
+    ensures held { OnOk result (Held column.now.optional (group_of column.now.node) mask.now assembler.new chunks.new) }
+    ensures after { OnOk result ((j : ℕ) → is_among j 0 (1 + width (group_of column.now.node)) ≡ true → reads mask.now j ≡ true → joined assembler.new chunks.new j ≡ later_items 0 (joined assembler.old chunks.old j)) }
 {
-    match assembler.next_row(alloc) {
-        Ok(Some(row)) => reading.row(alloc, column, &row, mask),
-        Ok(None) => unreachable!(),
+    match take_row(alloc, assembler, chunks, column, mask) {
+        Ok(row) => reading.row(alloc, column, &row, mask),
         Err(refusal) => Err(refusal),
-    }
-}
-
-// Feeds the entries of a leaf, where it is read.
-#[tactic(auto, using(crate::proofs::Feeding::read_leaf, crate::proofs::Feeding::fed_leaf, crate::proofs::Feeding::passed_leaf))]
-fn feed_leaf(
-    alloc: Global,
-    assembler: &mut Assembler,
-    column: &Column,
-    mask: &Mask,
-    leaf: usize,
-    entries: &mut EntryList,
-) -> Result<(), NoMemory>
-    requires column { IsFor assembler.old column.now.optional (group_of column.now.node) mask.now }
-    requires mask { length mask.now ≡ 1 + width (group_of column.now.node) }
-    requires leaf { leaf < 1 + width (group_of column.now.node) }
-    ensures column { IsFor assembler.new column.now.optional (group_of column.now.node) mask.now }
-    ensures fed { OnOk result (FedLeaf mask.now assembler.old assembler.new leaf entries.old) }
-{
-    let read = mask.as_slice()[leaf];
-    if read {
-        assembler.feed(alloc, leaf, entries)
-    } else {
-        Ok(())
     }
 }
 
@@ -94,13 +75,13 @@ fn at_row(refusal: Refusal, row: u64) -> Refused<GroupFault>
 
 impl GroupRows {
     /// The rows of a group of `rows` rows, by the entries of its leaves. Those of a leaf that isn't read are passed
-    /// over.
+    /// over. The others are taken from `leaves` in pieces, as rows ask for them.
     pub fn new(
         alloc: Global,
         column: &Column,
         mask: &Mask,
         rows: u64,
-        leaves: Sequence<EntryList>,
+        leaves: Sequence<ChunkEntries>,
     ) -> Result<GroupRows, NoMemory>
         requires column { IsWellFormed (group_of column.now.node) }
         requires mask { length mask.now ≡ 1 + width (group_of column.now.node) }
@@ -110,15 +91,11 @@ impl GroupRows {
         ensures stands { IfOk result (λ g. StandsFor column.now.optional (group_of column.now.node) mask.now g) }
         ensures rows { IfOk result (λ g. rows_ahead (reads mask.now) column.now.optional (group_of column.now.node) g ≡ rows_seen (reads mask.now) column.now.optional (group_of column.now.node) rows 0 (λ j. slice_index_or leaves j [])) }
     {
-        let mut leaves = leaves.into_vec();
         let reading = Reading::new(alloc, column, mask)?;
-        let mut assembler = Assembler::new(alloc, column, mask)?;
-        for j in 0..leaves.len() {
-            feed_leaf(alloc, &mut assembler, column, mask, j, &mut leaves[j])?;
-        }
-        assembler.end();
+        let assembler = Assembler::new(alloc, column, mask)?;
         Ok(GroupRows {
             assembler,
+            leaves: leaves.into_vec(),
             reading,
             row: 0,
             left: rows,
@@ -126,7 +103,7 @@ impl GroupRows {
     }
 
     /// The next row, or `None` after the last: `None` in it where the row is absent. Or the first rule that the row
-    /// violates, with its place; after that the rows aren't taken any more.
+    /// violates, with its place. After a rule or no memory the rows aren't taken any more.
     ///
     /// The column and the mask are those that `new` was given.
     pub fn next(
@@ -142,7 +119,14 @@ impl GroupRows {
         if self.left == 0 {
             return Ok(None);
         }
-        match next_row(alloc, &mut self.assembler, &self.reading, column, mask) {
+        match next_row(
+            alloc,
+            &mut self.assembler,
+            &mut self.leaves,
+            &self.reading,
+            column,
+            mask,
+        ) {
             Ok(row) => {
                 self.left -= 1;
                 self.row += 1;

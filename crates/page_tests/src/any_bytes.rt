@@ -99,7 +99,7 @@ fn read_metadata(alloc: Global, bytes: &[u8]) -> Result<(), NoMemory> {
 // How many entries a chunk of one entry has, or none where it violates a rule.
 fn read_chunk(alloc: Global, leaf: Leaf, bytes: Vec<u8>) -> Result<usize, NoMemory> {
     match ChunkReader::new(Bytes::from_vec(bytes)?, leaf, 1).into_entries(alloc) {
-        Ok(entries) => Ok(entries.len()),
+        Ok(mut entries) => Ok(entries.take(alloc, 2)?.len()),
         Err(Refused::Fault(_)) => Ok(0),
         Err(Refused::NoMemory) => Err(NoMemory),
     }

@@ -1,6 +1,6 @@
 //! Pages and column chunks.
 
-use chunks::ChunkReader;
+use chunks::{ChunkEntries, ChunkReader};
 use pages::{read_page, write_page};
 use std::alloc::Global;
 use std::process::Abort;
@@ -22,6 +22,16 @@ fn leaf_of(alloc: Global, name: &str, rep: &str, def: &str) -> Result<Leaf, Wron
     })
 }
 
+// The next entries of a chunk, so many, one by one.
+fn taken(alloc: Global, chunk: &mut ChunkEntries, count: u32) -> Result<Vec<Entry>, NoMemory> {
+    let mut found = Vec::new(alloc);
+    for _turn in 0..count {
+        let mut piece = chunk.take(alloc, 1)?.into_vec();
+        found.append(&mut piece)?;
+    }
+    Ok(found)
+}
+
 fn entries_found(
     alloc: Global,
     leaf: Leaf,
@@ -29,8 +39,9 @@ fn entries_found(
     bytes: Vec<u8>,
 ) -> Result<String, Refusal> {
     let reader = ChunkReader::new(Bytes::from_vec(bytes)?, leaf, u64::from(values));
-    let entries = reader.into_entries(alloc)?;
-    Ok(entries_text(alloc, entries.as_slice())?)
+    let mut chunk = reader.into_entries(alloc)?;
+    let entries = taken(alloc, &mut chunk, values)?;
+    Ok(entries_text(alloc, &entries)?)
 }
 
 // A row gives a column, its maximum repetition level and definition level, how many entries a chunk has by its
@@ -181,7 +192,7 @@ fn a_page_is_read(rt: HostRuntime) -> Result<(), Fail> {
 // How many entries the next page has, if there is one.
 fn next_len(alloc: Global, reader: &mut ChunkReader) -> Option<usize> {
     match reader.next(alloc) {
-        Ok(Some(entries)) => Some(entries.len()),
+        Ok(Some(page)) => Some(page.len()),
         _ => None,
     }
 }

@@ -9,3 +9,6 @@ pub mod PageBack
 pub mod ReadingInTurn
 pub mod Samples
 pub mod Truths
+mod Pieces
+mod Judged
+mod JudgedTexts

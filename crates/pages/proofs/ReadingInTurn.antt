@@ -13,7 +13,7 @@ use Rattle.vs_bytes.specs.declared.leaf_columns.Phys.TheVariants as phys
 use Rattle.vs_bytes.specs.declared.rule.Rule.{Rule}
 use Rattle.plain_values.specs.Plain.{front_cell, cells}
 use Rattle.pages.specs.Bodies.{entry, value_count, joined}
-use Rattle.pages.specs.ReadInTurn.{value_at, one_more, entries_in_turn, entries_at_once}
+use Rattle.pages.specs.ReadInTurn.{value_at, one_more, entries_in_turn, entries_at_once, before}
 
 module _ (front : List ℕ → Result (Cell × ℕ) Rule) (maximum : ℕ) where
   -- all values first, then the entries
@@ -82,10 +82,6 @@ of_type leaf reps defs bytes n other as_reps as_defs = in_turn (front_cell leaf.
     by phys.ByteArray is = rw is refl
     by (phys.Fixed size) is = rw is refl
     by phys.Other is = rw is refl
-
--- what was made, in front of what follows
-abbrev pub before : List Entry → Result (List Entry) Rule → Result (List Entry) Rule
-before found rest = rest >>= (λ es. Ok (found ++ es))
 
 one_before : (found : List Entry) (e : Entry) (rest : Result (List Entry) Rule) → before found (rest >>= (λ es. Ok (e ∷ es))) ≡ before (found ++ e ∷ []) rest
 one_before found e (Ok es) = ap Ok (sym (append_assoc found (e ∷ []) es))

@@ -5,3 +5,6 @@ pub mod Pages
 pub mod ReadInTurn
 pub mod Shown
 pub mod Written
+pub mod RowStarts
+pub mod Waiting
+pub mod Held

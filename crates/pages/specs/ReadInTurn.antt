@@ -30,3 +30,7 @@ one_more front maximum rep def found bytes = value_at front (def == maximum) byt
 abbrev pub entries_at_once : Leaf → List ℕ → List ℕ → List ℕ → Result (List Entry) Rule
 entries_at_once leaf reps defs bytes =
     plain_cells leaf.phys leaf.prim (value_count leaf.def defs) bytes >>= (λ cells. Ok (joined leaf.def reps defs cells))
+
+-- what was made, in front of what follows
+abbrev pub before : List Entry → Result (List Entry) Rule → Result (List Entry) Rule
+before found rest = rest >>= (λ es. Ok (found ++ es))

@@ -3,19 +3,19 @@
 ghost use Rattle.vs_bytes.specs.Outcome.{Makes};
 ghost use Rattle.pages.specs.Bodies.{data_body};
 
-use crate::joining::entries_of;
 use crate::levels::read_levels;
+use crate::open_pages::OpenPage;
 use std::alloc::Global;
-use vs_bytes::{EntryList, Leaf, Refusal, rest};
+use vs_bytes::{Leaf, Refusal, rest};
 
-/// The entries in the body of a data page of the first form, whose values are in PLAIN.
+/// The body of a data page of the first form, whose values are in PLAIN: judged whole, with the entries still to be made.
 #[tactic(auto, unfolding(crate::specs::Bodies::data_body))]
-pub(crate) fn data_body(
+pub(crate) fn open_body(
     alloc: Global,
     leaf: &Leaf,
     count: usize,
     body: &[u8],
-) -> Result<EntryList, Refusal>
+) -> Result<OpenPage, Refusal>
     ensures { Makes (λ entries. entries) result (data_body leaf.now count body.now) }
 {
     let (reps, used) = match read_levels(alloc, leaf.rep, count, body) {
@@ -28,5 +28,5 @@ pub(crate) fn data_body(
         Err(refusal) => return Err(refusal),
     };
     let values = rest(after_reps, used);
-    entries_of(alloc, leaf, count, &reps, &defs, values)
+    OpenPage::of(alloc, leaf, count, reps, defs, values)
 }

@@ -1,11 +1,12 @@
 //! Entries of levels and values.
 
-ghost use Rattle.std.specs.Prelude.{◌≡◌, ◌≤◌, ◌<◌, ◌==◌, ℕ, length, slice_index, IfOk};
+ghost use Rattle.std.specs.Prelude.{◌≡◌, ◌≤◌, ◌<◌, ◌==◌, ℕ, true, is_ok, length, drop, slice_index, IfOk};
 ghost use Rattle.vs_bytes.specs.Outcome.{Makes};
 ghost use Rattle.plain_values.specs.Plain.{front_cell};
 ghost use Rattle.pages.specs.Bodies.{joined};
 ghost use Rattle.pages.specs.ReadInTurn.{one_more, entries_in_turn, entries_at_once};
 ghost use Rattle.pages.specs.Shown.{shown};
+ghost use Rattle.pages.specs.Waiting.{left, IsPiece};
 
 use crate::levels::Levels;
 use plain_values::{decode, front_cell};
@@ -23,17 +24,15 @@ fn joined(
 ) -> Result<EntryList, NoMemory>
     requires reps { length (shown reps.now) ≡ count }
     requires defs { length (shown defs.now) ≡ count }
-    requires small_reps { (k : ℕ) → slice_index (shown reps.now) k < 65536 }
-    requires small_defs { (k : ℕ) → slice_index (shown defs.now) k < 65536 }
     ensures { IfOk result (λ entries. entries ≡ joined maximum (shown reps.now) (shown defs.now) cells) }
 {
     let mut entries = Vec::with_capacity(alloc, count)?;
     let mut values = cells.into_vec().into_iter();
     for i in 0..count {
-        let def = defs.at(i) as u16;
+        let def = defs.at(i);
         let value = if def == maximum { values.next() } else { None };
         entries.push(Entry {
-            rep: reps.at(i) as u16,
+            rep: reps.at(i),
             def,
             value,
         })?;
@@ -41,8 +40,8 @@ fn joined(
     Ok(EntryList::from_vec(entries))
 }
 
-// Truth values are bits, which are read at once.
-fn truths(
+/// The entries of `count` levels of both kinds, and of the values at the front of `bytes`, which are all read first.
+pub(crate) fn entries_at_once(
     alloc: Global,
     leaf: &Leaf,
     count: usize,
@@ -52,8 +51,6 @@ fn truths(
 ) -> Result<EntryList, Refusal>
     requires reps { length (shown reps.now) ≡ count }
     requires defs { length (shown defs.now) ≡ count }
-    requires small_reps { (k : ℕ) → slice_index (shown reps.now) k < 65536 }
-    requires small_defs { (k : ℕ) → slice_index (shown defs.now) k < 65536 }
     ensures { Makes (λ entries. entries) result (entries_at_once leaf.now (shown reps.now) (shown defs.now) bytes.now) }
 {
     let cells = match decode(alloc, leaf, defs.count(leaf.def), bytes) {
@@ -105,84 +102,83 @@ fn push_entry(
     }
 }
 
-// How many entries to take room for at first: each one without value, since the levels are there, and of those with a
-// value one for each 4 bytes, so that a count that the bytes can't bear takes no more memory. Where values are shorter
-// the list grows.
-fn room(count: usize, maximum: u16, defs: &Levels, bytes: &[u8]) -> usize {
-    let borne = bytes.len() / 4;
-    if count <= borne {
-        return count;
-    }
-    let values = defs.count(maximum);
-    count
-        .saturating_sub(values)
-        .saturating_add(values.min(borne))
-}
-
-// Each value is read into its entry. It is put in line where the type is known, so that each type has a loop of its
-// own.
+// The entries from `from` on in front of `end` of a page that was judged, and how many bytes their values take.
 #[inline(always)]
-#[tactic(auto, using(crate::proofs::ReadingInTurn::went_on, crate::proofs::ReadingInTurn::stopped))]
-fn in_turn(
+fn piece_in_turn(
     alloc: Global,
     leaf: &Leaf,
-    count: usize,
     reps: &Levels,
     defs: &Levels,
+    from: usize,
+    end: usize,
     bytes: &[u8],
-) -> Result<EntryList, Refusal>
-    requires reps { length (shown reps.now) ≡ count }
-    requires defs { length (shown defs.now) ≡ count }
-    requires small_reps { (k : ℕ) → slice_index (shown reps.now) k < 65536 }
-    requires small_defs { (k : ℕ) → slice_index (shown defs.now) k < 65536 }
-    ensures { Makes (λ entries. entries) result (entries_in_turn (front_cell leaf.now.phys leaf.now.prim) leaf.now.def (shown reps.now) (shown defs.now) bytes.now) }
+) -> Result<(EntryList, usize), NoMemory>
+    requires order { from ≤ end }
+    requires reps { end ≤ length (shown reps.now) }
+    requires defs { end ≤ length (shown defs.now) }
+    requires good { is_ok (left leaf.now (drop from (shown reps.now)) (drop from (shown defs.now)) bytes.now) ≡ true }
+    ensures { IfOk result (λ p. IsPiece leaf.now (shown reps.now) (shown defs.now) from end bytes.now p.0 p.1) }
 {
-    let room = room(count, leaf.def, defs, bytes);
-    let mut entries = match Vec::with_capacity(alloc, room) {
-        Ok(entries) => entries,
-        Err(_) => return Err(Refused::NoMemory),
-    };
+    let mut entries = Vec::with_capacity(alloc, end - from)?;
     let mut at = 0;
-    for i in 0..count {
-        let rep = reps.at(i) as u16;
-        let def = defs.at(i) as u16;
+    for i in from..end {
+        let rep = reps.at(i);
+        let def = defs.at(i);
         match push_entry(alloc, leaf, &mut entries, rep, def, rest(bytes, at)) {
             Ok(used) => at += used,
-            Err(refusal) => return Err(refusal),
+            Err(Refused::NoMemory) => return Err(NoMemory),
+            Err(Refused::Fault(_)) => unreachable!(),
         }
     }
-    Ok(EntryList::from_vec(entries))
+    Ok((EntryList::from_vec(entries), at))
 }
 
-/// The entries of `count` levels of both kinds, and of the values at the front of `bytes`.
+/// The entries from `from` on in front of `end` of a page that was judged, and how many bytes of `bytes` their values
+/// take.
 #[inline(never)]
-#[tactic(auto, using(crate::proofs::ReadingInTurn::of_type))]
-pub(crate) fn entries_of(
+pub(crate) fn piece(
     alloc: Global,
     leaf: &Leaf,
-    count: usize,
     reps: &Levels,
     defs: &Levels,
+    from: usize,
+    end: usize,
     bytes: &[u8],
-) -> Result<EntryList, Refusal>
-    requires reps { length (shown reps.now) ≡ count }
-    requires defs { length (shown defs.now) ≡ count }
-    requires small_reps { (k : ℕ) → slice_index (shown reps.now) k < 65536 }
-    requires small_defs { (k : ℕ) → slice_index (shown defs.now) k < 65536 }
-    ensures { Makes (λ entries. entries) result (entries_at_once leaf.now (shown reps.now) (shown defs.now) bytes.now) }
+) -> Result<(EntryList, usize), NoMemory>
+    requires order { from ≤ end }
+    requires reps { end ≤ length (shown reps.now) }
+    requires defs { end ≤ length (shown defs.now) }
+    requires good { is_ok (left leaf.now (drop from (shown reps.now)) (drop from (shown defs.now)) bytes.now) ≡ true }
+    ensures { IfOk result (λ p. IsPiece leaf.now (shown reps.now) (shown defs.now) from end bytes.now p.0 p.1) }
 {
     match leaf.phys {
-        Phys::Boolean => truths(alloc, leaf, count, reps, defs, bytes),
-        Phys::Int32 => in_turn(alloc, &leaf.of_type(Phys::Int32), count, reps, defs, bytes),
-        Phys::Int64 => in_turn(alloc, &leaf.of_type(Phys::Int64), count, reps, defs, bytes),
-        Phys::ByteArray => in_turn(
+        Phys::Int32 => piece_in_turn(
             alloc,
-            &leaf.of_type(Phys::ByteArray),
-            count,
+            &leaf.of_type(Phys::Int32),
             reps,
             defs,
+            from,
+            end,
             bytes,
         ),
-        _ => in_turn(alloc, leaf, count, reps, defs, bytes),
+        Phys::Int64 => piece_in_turn(
+            alloc,
+            &leaf.of_type(Phys::Int64),
+            reps,
+            defs,
+            from,
+            end,
+            bytes,
+        ),
+        Phys::ByteArray => piece_in_turn(
+            alloc,
+            &leaf.of_type(Phys::ByteArray),
+            reps,
+            defs,
+            from,
+            end,
+            bytes,
+        ),
+        _ => piece_in_turn(alloc, leaf, reps, defs, from, end, bytes),
     }
 }

@@ -1,7 +1,7 @@
 //! The levels of a page.
 
-ghost use Rattle.std.specs.Prelude.{◌≡◌, ◌<◌, ◌≤◌, ◌==◌, nat_lt, ℕ, length, slice_index, IfOk};
-ghost use Rattle.std.specs.List.{list_any};
+ghost use Rattle.std.specs.Prelude.{◌≡◌, ◌<◌, ◌≤◌, ◌==◌, nat_lt, ℕ, length, drop, slice_index, IfOk};
+ghost use Rattle.std.specs.List.{list_any, count_by};
 ghost use Rattle.vs_bytes.specs.Outcome.{Gives, Makes};
 ghost use Rattle.pages.specs.Bodies.{value_count};
 ghost use Rattle.pages.specs.Levels.{level_width, prefixed, stored, levels_of};
@@ -9,7 +9,7 @@ ghost use Rattle.pages.specs.Shown.{shown};
 
 use hybrid_levels::{decode, measure};
 use std::alloc::Global;
-use vs_bytes::{Refusal, Refused, Rule, number_at, part};
+use vs_bytes::{NoMemory, Refusal, Refused, Rule, number_at, part};
 
 /// Levels in order.
 #[derive(Drop)]
@@ -17,12 +17,12 @@ pub(crate) enum Levels {
     /// So many levels, each 0.
     Zeros(usize),
     /// Levels that bytes hold.
-    Listed(Vec<u32>),
+    Listed(Vec<u16>),
 }
 
 impl Levels {
     /// The level at `i`, counted from 0.
-    pub(crate) fn at(&self, i: usize) -> u32
+    pub(crate) fn at(&self, i: usize) -> u16
         requires { i < length (shown self.now) }
         ensures { result ≡ slice_index (shown self.now) i }
     {
@@ -38,10 +38,18 @@ impl Levels {
     {
         match self {
             Levels::Zeros(count) => { if maximum == 0 { *count } else { 0 } }
-            Levels::Listed(levels) => levels
-                .iter()
-                .filter(|level| **level == u32::from(maximum))
-                .count(),
+            Levels::Listed(levels) => levels.iter().filter(|level| **level == maximum).count(),
+        }
+    }
+
+    /// How many of the levels from `from` on are 0.
+    pub(crate) fn zeros_from(&self, from: usize) -> usize
+        requires { from ≤ length (shown self.now) }
+        ensures { result ≡ count_by (λ level. level == 0) (drop from (shown self.now)) }
+    {
+        match self {
+            Levels::Zeros(count) => *count - from,
+            Levels::Listed(levels) => levels[from..].iter().filter(|level| **level == 0).count(),
         }
     }
 }
@@ -80,11 +88,22 @@ fn passes(levels: &[u32], maximum: u16) -> bool
     above
 }
 
+// The same levels in 16 bits each.
+fn narrowed(alloc: Global, levels: &[u32]) -> Result<Vec<u16>, NoMemory>
+    requires small { (i : ℕ) → slice_index levels.now i < 65536 }
+    ensures { IfOk result (λ narrow. narrow.items ≡ levels.now) }
+{
+    let mut narrow = Vec::with_capacity(alloc, levels.len())?;
+    for level in levels {
+        narrow.push(*level as u16)?;
+    }
+    Ok(narrow)
+}
+
 #[tactic(auto, using(crate::proofs::Maximum::small_levels), unfolding(crate::specs::Levels::stored))]
-fn listed(alloc: Global, maximum: u16, count: usize, bytes: &[u8]) -> Result<Vec<u32>, Refusal>
+fn listed(alloc: Global, maximum: u16, count: usize, bytes: &[u8]) -> Result<Vec<u16>, Refusal>
     ensures exact { Makes (λ levels. levels.items) result (stored maximum count bytes.now) }
     ensures count { IfOk result (λ levels. length levels.items ≡ count) }
-    ensures small { IfOk result (λ levels. (i : ℕ) → slice_index levels.items i < 65536) }
 {
     let mut levels = match Vec::from_elem(alloc, 0u32, count) {
         Ok(levels) => levels,
@@ -95,7 +114,10 @@ fn listed(alloc: Global, maximum: u16, count: usize, bytes: &[u8]) -> Result<Vec
             if passes(&levels, maximum) {
                 return Err(Refused::Fault(Rule::LevelRange));
             }
-            Ok(levels)
+            match narrowed(alloc, &levels) {
+                Ok(levels) => Ok(levels),
+                Err(_) => Err(Refused::NoMemory),
+            }
         }
         Err(rule) => Err(Refused::Fault(rule)),
     }
@@ -103,10 +125,9 @@ fn listed(alloc: Global, maximum: u16, count: usize, bytes: &[u8]) -> Result<Vec
 
 // The memory is taken once the bytes bear so many levels. A byte bears eight that aren't in runs; for more of them the
 // headers are read first.
-fn stored(alloc: Global, maximum: u16, count: usize, bytes: &[u8]) -> Result<Vec<u32>, Refusal>
+fn stored(alloc: Global, maximum: u16, count: usize, bytes: &[u8]) -> Result<Vec<u16>, Refusal>
     ensures exact { Makes (λ levels. levels.items) result (stored maximum count bytes.now) }
     ensures count { IfOk result (λ levels. length levels.items ≡ count) }
-    ensures small { IfOk result (λ levels. (i : ℕ) → slice_index levels.items i < 65536) }
 {
     if count / 8 <= bytes.len() {
         return listed(alloc, maximum, count, bytes);
@@ -128,7 +149,6 @@ pub(crate) fn read_levels(
     ensures exact { Makes (λ p. (shown p.0, p.1)) result (levels_of maximum count bytes.now) }
     ensures inside { IfOk result (λ p. p.1 ≤ length bytes.now) }
     ensures count { IfOk result (λ p. length (shown p.0) ≡ count) }
-    ensures small { IfOk result (λ p. (i : ℕ) → slice_index (shown p.0) i < 65536) }
 {
     if maximum == 0 {
         return Ok((Levels::Zeros(count), 0));

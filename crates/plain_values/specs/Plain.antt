@@ -73,6 +73,18 @@ front_cell phys.Int64 kind bytes = integer 8 bytes
 front_cell (phys.Fixed size) kind bytes = fixed size bytes
 front_cell type kind bytes = array kind bytes
 
+-- a cell with how many bytes it takes
+abbrev pub with_len : ℕ → Result Cell Rule → Result (Cell × ℕ) Rule
+with_len len held = held >>= (λ c. Ok (c, len))
+
+-- how many bytes a cell takes that was read
+abbrev pub len_of : Result (Cell × ℕ) Rule → Result ℕ Rule
+len_of read = read >>= (λ c. Ok c.1)
+
+-- how many bytes the cell of any type but BOOLEAN takes
+abbrev pub front_len : Phys → PrimKind → List ℕ → Result ℕ Rule
+front_len type kind bytes = len_of (front_cell type kind bytes)
+
 -- Cells.
 
 -- `count` cells that are read one by one

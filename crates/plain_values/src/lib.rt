@@ -2,7 +2,7 @@
 //!
 //! | Module | What it holds |
 //! |---|---|
-//! | `cell_reading` | `front_cell`: the cell at the front of bytes |
+//! | `cell_reading` | `front_cell`, `front_len`: the cell at the front of bytes, and how many bytes it takes |
 //! | `booleans` | truth values, which are bits |
 //! | `decoding` | `decode`: the cells at the front of bytes |
 //! | `cell_writing` | `append_cell`: the bytes of one cell |
@@ -17,7 +17,7 @@ mod decoding;
 mod encoding;
 mod laws;
 
-pub use cell_reading::front_cell;
+pub use cell_reading::{front_cell, front_len};
 pub use cell_writing::append_cell;
 pub use decoding::decode;
 pub use encoding::{append, encode};

@@ -5,6 +5,7 @@ ghost use Rattle.shred_schema.specs.Groups.{Group, width};
 ghost use Rattle.shred_schema.specs.Lawful.{IsWellFormed};
 ghost use Rattle.shred_schema.specs.Ranges.{reads, none_read};
 ghost use Rattle.shred_schema.specs.Views.{group_of};
+ghost use Rattle.column_assembly.specs.Items.{is_whole};
 ghost use Rattle.row_assembler.specs.Assembly.{Answers, Fed, IsFor, IsReadLeaf, left};
 ghost use Rattle.row_assembler.specs.KeptAnswers.{NextKept};
 
@@ -127,6 +128,17 @@ impl Assembler {
                 self.stop = Some(Refused::NoMemory);
                 Err(Refused::NoMemory)
             }
+        }
+    }
+
+    /// Whether a leaf that is read has all entries of its next row. `leaf` is its number in the column.
+    pub fn is_whole(&self, leaf: usize) -> bool
+        requires read { IsReadLeaf self.now leaf }
+        ensures { result ≡ is_whole self.now.ended (left self.now leaf) }
+    {
+        match self.places[leaf] {
+            Some(place) => self.cursors[place].is_whole(self.ended),
+            None => false,
         }
     }
 

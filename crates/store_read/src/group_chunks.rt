@@ -11,13 +11,14 @@ ghost use Rattle.store_read.specs.FileGroups.{rows_in, nth_seen, nth_plan, leaf_
 
 use crate::leaf_chunks::read_leaf;
 use crate::read_stop::ReadStop;
+use chunks::ChunkEntries;
 use file_columns::FileColumn;
 use footer_structs::GroupMeta;
 use group_reading::{GroupFault, PlaceInGroup};
 use shelf::Shelf;
 use shred_schema::Mask;
 use std::alloc::Global;
-use vs_bytes::{EntryList, Rule, Sequence, Text};
+use vs_bytes::{Rule, Sequence, Text};
 
 /// How many rows a group has.
 pub(crate) fn rows_in(group: &GroupMeta) -> u64
@@ -40,7 +41,7 @@ fn read_nth<S: Shelf>(
     column: &FileColumn,
     group: &GroupMeta,
     j: usize,
-) -> Result<EntryList, ReadStop<Rule>>
+) -> Result<ChunkEntries, ReadStop<Rule>>
     requires leaf { j < length column.now.leaves }
     requires place { j < length column.now.places }
     ensures read { ReadsFile (λ entries. entries) (S.seen shelf.old) (S.seen shelf.new) name.now (nth_plan name.now end column.now group.now j) (nth_seen end column.now group.now j) result }
@@ -66,7 +67,7 @@ fn next_leaf<S: Shelf>(
     group: &GroupMeta,
     mask: &Mask,
     j: usize,
-) -> Result<EntryList, ReadStop<GroupFault>>
+) -> Result<ChunkEntries, ReadStop<GroupFault>>
     requires leaf { j < length column.now.leaves }
     requires place { j < length column.now.places }
     requires mask { j < length mask.now }
@@ -75,7 +76,7 @@ fn next_leaf<S: Shelf>(
 {
     let read = mask.as_slice()[j];
     if !read {
-        return Ok(Sequence::new(alloc));
+        return Ok(ChunkEntries::new(alloc));
     }
     match read_nth(alloc, shelf, name, end, column, group, j) {
         Ok(entries) => Ok(entries),
@@ -97,7 +98,7 @@ pub(crate) fn read_leaves<S: Shelf>(
     column: &FileColumn,
     group: &GroupMeta,
     mask: &Mask,
-) -> Result<Sequence<EntryList>, ReadStop<GroupFault>>
+) -> Result<Sequence<ChunkEntries>, ReadStop<GroupFault>>
     requires leaves { length column.now.leaves ≡ length mask.now }
     requires places { length column.now.places ≡ length mask.now }
     ensures read { ReadsFile (λ leaves. leaves) (S.seen shelf.old) (S.seen shelf.new) name.now (leaves_plan (reads mask.now) name.now end column.now group.now 0 (length mask.now)) (entries_seen (reads mask.now) end column.now group.now 0 (length mask.now)) result }

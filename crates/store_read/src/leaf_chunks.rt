@@ -8,11 +8,12 @@ ghost use Rattle.store_read.specs.FileGroups.{values_in, chunk_seen, chunk_plan}
 
 use crate::fetching::{FetchError, fetch};
 use crate::read_stop::ReadStop;
+use chunks::ChunkEntries;
 use group_reading::read_chunk;
 use shelf::Shelf;
 use std::alloc::Global;
 use thrift_structs::{ChunkMeta, ColumnMeta, chunk_range};
-use vs_bytes::{EntryList, Leaf, Refused, Rule, Text};
+use vs_bytes::{Leaf, Refused, Rule, Text};
 
 fn values_in(column: &Option<ColumnMeta>) -> u64
     ensures { result ≡ values_in column.now }
@@ -33,7 +34,7 @@ fn read_range<S: Shelf>(
     leaf: &Leaf,
     values: u64,
     rows: u64,
-) -> Result<EntryList, ReadStop<Rule>>
+) -> Result<ChunkEntries, ReadStop<Rule>>
     ensures read { ReadsFile (λ entries. entries) (S.seen shelf.old) (S.seen shelf.new) name.now (record { name = name.now; at = range.0; size = range.1 } ∷ []) (λ file. chunk_entries leaf.now values rows (part file range.0 range.1)) result }
     ensures rows { IfOk result (λ entries. has_rows rows entries ≡ true) }
 {
@@ -57,7 +58,7 @@ pub(crate) fn read_leaf<S: Shelf>(
     rows: u64,
     leaf: &Leaf,
     chunk: &ChunkMeta,
-) -> Result<EntryList, ReadStop<Rule>>
+) -> Result<ChunkEntries, ReadStop<Rule>>
     ensures read { ReadsFile (λ entries. entries) (S.seen shelf.old) (S.seen shelf.new) name.now (chunk_plan name.now end leaf.now chunk.now) (chunk_seen end rows leaf.now chunk.now) result }
     ensures rows { IfOk result (λ entries. has_rows rows entries ≡ true) }
 {

@@ -1,7 +1,8 @@
-//! Typed parts beside which no value that is read is there: the way of most nodes.
+//! The short way for a node of which only the typed part counts: some leaf of it is read, it is there, and no value that
+//! is read is.
 //!
-//! Each call answers nothing where the node has another typed part, or another part is there. The caller then takes the
-//! way of all parts.
+//! Each call answers `None` where it isn't for the node. `records::seen` then tells what the node means, as it does of
+//! every node: nothing but time rests on this module. Decimals and objects inside others take that way.
 
 ghost use Rattle.std.specs.Prelude.{◌≡◌, ℕ, Bool, true, List, map, Some, Ok, IfSome};
 ghost use Rattle.std.specs.Option.{option_map};
@@ -30,7 +31,7 @@ struct CellAlone<'a> {
     cell: &'a Cell,
 }
 
-/// The fields of an object, each with its record.
+/// The fields of an object of which only the typed part counts, each with its record.
 #[derive(Clone, Copy)]
 pub(crate) struct FieldsAlone<'a> {
     pub(crate) fields: &'a [(Text, Node)],
@@ -97,7 +98,7 @@ pub(crate) fn fields_alone<'a>(
     }
 }
 
-// The number of a cell without digits after the point.
+// The number in a cell of an integer kind.
 #[inline(always)]
 fn whole_number(prim: Prim, cell: &Cell) -> Option<Number>
     requires kind { MayHold prim }
@@ -113,7 +114,7 @@ fn whole_number(prim: Prim, cell: &Cell) -> Option<Number>
     }
 }
 
-/// The number of a scalar that is there, where it has no digits after the point.
+/// The number of a node of an integer kind of which only the cell counts.
 #[inline(always)]
 pub(crate) fn number_alone(reading: &Reading, node: &Node, rec: &Record) -> Option<Number>
     requires nodes { AreNodes (group_of node.now) }

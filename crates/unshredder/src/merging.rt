@@ -135,7 +135,7 @@ pub(crate) fn left_over(
     }
 }
 
-// Puts a field's number after the members. It is made in place, for that is cheapest.
+// Puts a field's number after the members. The pair is made where it stays, since a tree that is handed on is copied.
 #[inline(always)]
 pub(crate) fn put_number(
     alloc: Global,

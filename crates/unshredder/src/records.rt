@@ -32,7 +32,7 @@ use variant_meta::MetaRef;
 use variant_read::ValueRef;
 use vs_bytes::{Refusal, Rule, Text};
 
-// For how many members there is room at once, where more may follow.
+// Room for members that is taken at once: an object may have few of its many fields.
 const FIRST_ROOM: usize = 12;
 
 /// What a record means under each mask of which the reading is one, or the first rule that it violates. Its node stands
@@ -192,7 +192,7 @@ fn fields_seen(
     Ok(left)
 }
 
-// Puts a field that isn't missing after the members. Most fields are numbers that stand alone.
+// Puts a field that isn't missing after the members. An integer that stands alone is put without a tree in between.
 #[cycle(seen)]
 #[inline(always)]
 fn put_field(
@@ -216,7 +216,7 @@ fn put_field(
     }
 }
 
-// The same of any field.
+// The same by the way of every node.
 #[cycle(seen)]
 #[inline(always)]
 fn put_seen(
@@ -296,8 +296,8 @@ fn items_seen(
     Ok(Items::from_vec(trees))
 }
 
-/// The members of an object whose fields stand alone: the top of most rows. It answers them bare, since a result that is
-/// wrapped level by level is copied at each.
+/// The members of an object of which only the typed part counts. It answers them bare, since each wrapper of a result is
+/// one more copy.
 pub(crate) fn members_alone(
     alloc: Global,
     reading: &Reading,

@@ -33,7 +33,7 @@ fn names_needed(needed: bool, meta: &[u8]) -> Result<MetaRef<'_>, Rule>
     }
 }
 
-// Whether a row's names are needed. Most readings of few leaves read no value.
+// Whether a row's names are needed: `has_value`, whose first test is made here without a call.
 #[inline(always)]
 #[tactic(auto, using(crate::proofs::NoValueRead::no_value))]
 fn is_needed(reading: &Reading, node: &Node, rec: &Record) -> bool
@@ -75,7 +75,7 @@ impl Reading {
             RowRecord::Present { meta, rec } => {
                 let needed = is_needed(self, &column.node, rec);
                 let names = names_needed(needed, meta.as_slice())?;
-                // Most rows are such objects. The other way tells the same of them, in more steps.
+                // An object of which only the typed part counts. `seen` tells the same of it, with more copies.
                 if let Some(alone) = fields_alone(self, &column.node, rec) {
                     let members = members_alone(alloc, self, &names, alone, 0)?;
                     return Ok(Some(Tree::Object(members)));
