@@ -1,6 +1,6 @@
 //! The rows of a group, one by one.
 
-ghost use Rattle.std.specs.Prelude.{◌≡◌, ℕ, ◌+◌, ◌^◌, ◌<◌, [], true, false, length, slice_index_or, Some, None, Ok, Err, IfOk, OnOk};
+ghost use Rattle.std.specs.Prelude.{◌≡◌, ℕ, ◌+◌, ◌<◌, [], true, false, length, slice_index_or, Some, None, Ok, Err, IfOk, OnOk};
 ghost use Rattle.std.specs.Option.{option_map};
 ghost use Rattle.json_tree.specs.View.{view};
 ghost use Rattle.vs_bytes.specs.Outcome.{Makes};
@@ -23,6 +23,7 @@ use row_assembler::Assembler;
 use shred_schema::{Column, Mask};
 use std::alloc::Global;
 use unshredder::Reading;
+use variant_meta::KnownMeta;
 use vs_bytes::{NoMemory, Refusal, Refused, Sequence};
 
 /// The rows of a row group that are still to come.
@@ -32,6 +33,7 @@ pub struct GroupRows {
     // What the assembler wasn't fed yet.
     leaves: Vec<ChunkEntries>,
     reading: Reading,
+    known: KnownMeta,
     row: u64,
     left: u64,
 }
@@ -43,6 +45,7 @@ fn next_row(
     assembler: &mut Assembler,
     chunks: &mut [ChunkEntries],
     reading: &Reading,
+    known: &mut KnownMeta,
     column: &Column,
     mask: &Mask,
 ) -> Result<Option<Tree>, Refusal>
@@ -55,7 +58,7 @@ fn next_row(
     ensures after { OnOk result ((j : ℕ) → is_among j 0 (1 + width (group_of column.now.node)) ≡ true → reads mask.now j ≡ true → joined assembler.new chunks.new j ≡ later_items 0 (joined assembler.old chunks.old j)) }
 {
     match take_row(alloc, assembler, chunks, column, mask) {
-        Ok(row) => reading.row(alloc, column, &row, mask),
+        Ok(row) => reading.row(alloc, column, &row, mask, known),
         Err(refusal) => Err(refusal),
     }
 }
@@ -97,6 +100,7 @@ impl GroupRows {
             assembler,
             leaves: leaves.into_vec(),
             reading,
+            known: KnownMeta::new(alloc),
             row: 0,
             left: rows,
         })
@@ -124,6 +128,7 @@ impl GroupRows {
             &mut self.assembler,
             &mut self.leaves,
             &self.reading,
+            &mut self.known,
             column,
             mask,
         ) {

@@ -24,11 +24,11 @@ pub record IsAsGood (front : List ℕ → Result (Cell × ℕ) Rule) (count : �
 pub at_first : (front : List ℕ → Result (Cell × ℕ) Rule) (count : ℕ) (bytes : List ℕ) → IsAsGood front count bytes count bytes
 at_first front count bytes = record { good = λ g. g; bad = λ rule is. is }
 
-with_first : (c : Cell) (cs : Result (List Cell) Rule) → is_ok cs ≡ true → is_ok (cs >>= (λ cs. Ok (c ∷ cs))) ≡ true
+pub with_first : (c : Cell) (cs : Result (List Cell) Rule) → is_ok cs ≡ true → is_ok (cs >>= (λ cs. Ok (c ∷ cs))) ≡ true
 with_first c (Ok cs) good = refl
 with_first c (Err rule) good = cc
 
-after_first : (c : Cell) (cs : Result (List Cell) Rule) (rule : Rule) → cs ≡ Err rule → (cs >>= (λ cs. Ok (c ∷ cs))) ≡ Err rule
+pub after_first : (c : Cell) (cs : Result (List Cell) Rule) (rule : Rule) → cs ≡ Err rule → (cs >>= (λ cs. Ok (c ∷ cs))) ≡ Err rule
 after_first c cs rule is = rw is refl
 
 pub one_judged : (front : List ℕ → Result (Cell × ℕ) Rule) (count : ℕ) (bytes : List ℕ) (left : ℕ) (rest : List ℕ) (used : ℕ) →

@@ -11,4 +11,6 @@ pub mod Samples
 pub mod Truths
 mod Pieces
 mod Judged
+mod JudgedIntegers
 mod JudgedTexts
+mod Narrowed

@@ -1,10 +1,10 @@
 //! Entries of levels and values.
 
-ghost use Rattle.std.specs.Prelude.{◌≡◌, ◌≤◌, ◌<◌, ◌==◌, ℕ, true, is_ok, length, drop, slice_index, IfOk};
+ghost use Rattle.std.specs.Prelude.{◌≡◌, ◌≤◌, ◌<◌, ◌==◌, true, is_ok, length, drop, IfOk};
 ghost use Rattle.vs_bytes.specs.Outcome.{Makes};
 ghost use Rattle.plain_values.specs.Plain.{front_cell};
 ghost use Rattle.pages.specs.Bodies.{joined};
-ghost use Rattle.pages.specs.ReadInTurn.{one_more, entries_in_turn, entries_at_once};
+ghost use Rattle.pages.specs.ReadInTurn.{one_more, entries_at_once};
 ghost use Rattle.pages.specs.Shown.{shown};
 ghost use Rattle.pages.specs.Waiting.{left, IsPiece};
 

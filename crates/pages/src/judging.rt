@@ -1,12 +1,7 @@
 //! Values that are judged, and not made.
 
-ghost use Rattle.std.specs.Prelude.{◌≡◌, ◌↔◌, ◌++◌, ◌≤◌, ◌<◌, ℕ, [], true, is_ok, length, slice_index, min, Ok, Err, IfOk, IfErr, OnErr, IsTrue};
-ghost use Rattle.vs_bytes.specs.Outcome.{Makes};
-ghost use Rattle.vs_bytes.specs.declared.leaf_columns.Phys.TheVariants as phys;
-ghost use Rattle.plain_values.specs.Plain.{front_cell, cells, plain_cells};
-ghost use Rattle.pages.specs.ReadInTurn.{entries_at_once};
-ghost use Rattle.pages.specs.RowStarts.{row_starts, begins_row};
-ghost use Rattle.pages.specs.Shown.{shown};
+ghost use Rattle.std.specs.Prelude.{◌≡◌, ◌<◌, ◌≤◌, true, is_ok, Ok, Err, IfOk, IfErr};
+ghost use Rattle.plain_values.specs.Plain.{front_cell, integer, cells};
 
 use plain_values::front_len;
 use vs_bytes::{Leaf, Phys, Rule, rest};
@@ -28,6 +23,20 @@ fn judge_in_turn(leaf: &Leaf, count: usize, bytes: &[u8]) -> Result<(), Rule>
     Ok(())
 }
 
+// Judges so many integers of this size: their bytes are there, or end early.
+#[tactic(auto, using(crate::proofs::JudgedIntegers::all_there, crate::proofs::JudgedIntegers::some_absent))]
+fn judge_integers(size: usize, count: usize, bytes: &[u8]) -> Result<(), Rule>
+    requires { 1 ≤ size }
+    ensures ok { IfOk result (λ done. is_ok (cells (integer size) count bytes.now) ≡ true) }
+    ensures err { IfErr result (λ rule. cells (integer size) count bytes.now ≡ Err rule) }
+{
+    if count <= bytes.len() / size {
+        Ok(())
+    } else {
+        Err(Rule::PlainShort)
+    }
+}
+
 /// Judges so many values at the front of `bytes`, and makes none: answers the first rule that they violate.
 #[inline(never)]
 pub(crate) fn judge(leaf: &Leaf, count: usize, bytes: &[u8]) -> Result<(), Rule>
@@ -35,8 +44,8 @@ pub(crate) fn judge(leaf: &Leaf, count: usize, bytes: &[u8]) -> Result<(), Rule>
     ensures err { IfErr result (λ rule. cells (front_cell leaf.now.phys leaf.now.prim) count bytes.now ≡ Err rule) }
 {
     match leaf.phys {
-        Phys::Int32 => judge_in_turn(&leaf.of_type(Phys::Int32), count, bytes),
-        Phys::Int64 => judge_in_turn(&leaf.of_type(Phys::Int64), count, bytes),
+        Phys::Int32 => judge_integers(4, count, bytes),
+        Phys::Int64 => judge_integers(8, count, bytes),
         Phys::ByteArray => judge_in_turn(&leaf.of_type(Phys::ByteArray), count, bytes),
         _ => judge_in_turn(leaf, count, bytes),
     }

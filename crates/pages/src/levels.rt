@@ -38,7 +38,7 @@ impl Levels {
     {
         match self {
             Levels::Zeros(count) => { if maximum == 0 { *count } else { 0 } }
-            Levels::Listed(levels) => levels.iter().filter(|level| **level == maximum).count(),
+            Levels::Listed(levels) => equal(levels, maximum),
         }
     }
 
@@ -52,6 +52,17 @@ impl Levels {
             Levels::Listed(levels) => levels[from..].iter().filter(|level| **level == 0).count(),
         }
     }
+}
+
+// How many levels are this one. No test ends the loop, so that it looks at several levels at a time.
+fn equal(levels: &[u16], wanted: u16) -> usize
+    ensures { result ≡ value_count wanted levels.now }
+{
+    let mut count = 0;
+    for level in levels {
+        count += (*level == wanted) as usize;
+    }
+    count
 }
 
 pub(crate) fn level_width(maximum: u16) -> u8
@@ -88,14 +99,15 @@ fn passes(levels: &[u32], maximum: u16) -> bool
     above
 }
 
-// The same levels in 16 bits each.
+// The same levels in 16 bits each. No test but the count ends the loop, so that several are stored at a time.
+#[tactic(auto, using(crate::proofs::Narrowed::one_more, crate::proofs::Narrowed::all_stored))]
 fn narrowed(alloc: Global, levels: &[u32]) -> Result<Vec<u16>, NoMemory>
     requires small { (i : ℕ) → slice_index levels.now i < 65536 }
     ensures { IfOk result (λ narrow. narrow.items ≡ levels.now) }
 {
-    let mut narrow = Vec::with_capacity(alloc, levels.len())?;
-    for level in levels {
-        narrow.push(*level as u16)?;
+    let mut narrow = Vec::from_elem(alloc, 0u16, levels.len())?;
+    for i in 0..levels.len() {
+        narrow[i] = levels[i] as u16;
     }
     Ok(narrow)
 }

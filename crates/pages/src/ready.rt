@@ -1,12 +1,7 @@
 //! Entries that are there, given in pieces.
 
-ghost use Rattle.std.specs.Prelude.{◌≡◌, ◌↔◌, ◌++◌, ◌≤◌, ◌<◌, ℕ, [], true, is_ok, length, slice_index, min, Ok, Err, IfOk, IfErr, OnErr, IsTrue};
-ghost use Rattle.vs_bytes.specs.Outcome.{Makes};
-ghost use Rattle.vs_bytes.specs.declared.leaf_columns.Phys.TheVariants as phys;
-ghost use Rattle.plain_values.specs.Plain.{front_cell, cells, plain_cells};
-ghost use Rattle.pages.specs.ReadInTurn.{entries_at_once};
+ghost use Rattle.std.specs.Prelude.{◌≡◌, ◌++◌, ◌<◌, true, length, min, Ok, Err, IfOk, OnErr};
 ghost use Rattle.pages.specs.RowStarts.{row_starts, begins_row};
-ghost use Rattle.pages.specs.Shown.{shown};
 
 use std::marker::Model;
 use vs_bytes::{Entry, EntryList, NoMemory, Sequence};

@@ -15,6 +15,7 @@ use shredder::shred;
 use std::alloc::Global;
 use test_records::{WIDTHS, full_mask, shredded_row};
 use unshredder::Reading;
+use variant_meta::KnownMeta;
 use variant_write::dictionary_of;
 use vs_bytes::{NoMemory, Refused};
 
@@ -60,9 +61,10 @@ fn read(
     requires row { RowHasShape (group_of column.now.node) (row_rec_of row.now) }
 {
     let reading = Reading::new(alloc, column, mask)?;
+    let mut known = KnownMeta::new(alloc);
     let mut count: usize = 0;
     for _turn in 0..turns {
-        match reading.row(alloc, column, row, mask) {
+        match reading.row(alloc, column, row, mask, &mut known) {
             Ok(Some(_)) => count = count.saturating_add(1),
             Ok(None) => {}
             Err(Refused::NoMemory) => return Err(NoMemory),

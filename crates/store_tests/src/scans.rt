@@ -6,6 +6,8 @@ use std::alloc::Global;
 use std::test::Fail;
 use test_files::{lines_of, loaded, push_answer};
 use test_rows::Wrong;
+use test_runs::repeated;
+use vs_bytes::NoMemory;
 
 // What documents are, from those that no schema below fits to those that one fits, one set a line; a `¶` stands for LF.
 const DOCUMENTS: &str = r#"
@@ -126,5 +128,31 @@ fn a_query_of_a_load_is_a_scan(rt: HostRuntime) -> Result<(), Fail> {
 #[test]
 fn a_query_of_loaded_records_is_a_scan(rt: HostRuntime) -> Result<(), Fail> {
     check_documents(rt.alloc(), RECORDS)?;
+    Ok(())
+}
+
+// Rows of one number and a list of up to 1,036, so that the entries of one column are many pieces and those of the other
+// are one.
+fn long_lists(alloc: Global) -> Result<String, NoMemory> {
+    let mut rows = String::new(alloc);
+    for row in 0..60usize {
+        rows.push_str("{\"a\":1,\"t\":[")?;
+        rows.push_str(repeated(alloc, "7", ",", row % 29 * 37)?.as_str())?;
+        rows.push_str("]}\n")?;
+    }
+    Ok(rows)
+}
+
+#[test]
+fn rows_are_put_together_from_pieces(rt: HostRuntime) -> Result<(), Fail> {
+    let rows = long_lists(rt.alloc())?;
+    let no_files = MemShelf::new(rt.alloc(), Vec::new(rt.alloc()));
+    let wanted = answers_text(rt.alloc(), "scan", no_files, rows.as_str())?;
+    check_options(
+        rt.alloc(),
+        "{a:int64,t:[int8]}",
+        rows.as_str(),
+        wanted.as_str(),
+    )?;
     Ok(())
 }

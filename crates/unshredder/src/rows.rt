@@ -19,15 +19,19 @@ use crate::records::{members_alone, seen};
 use json_tree::Tree;
 use shred_schema::{Column, Mask, Node, Record, RowRecord};
 use std::alloc::Global;
-use variant_meta::MetaRef;
+use variant_meta::{KnownMeta, MetaRef};
 use vs_bytes::{NoMemory, Refusal, Rule};
 
 // The names of a row's metadata, where they are needed.
-fn names_needed(needed: bool, meta: &[u8]) -> Result<MetaRef<'_>, Rule>
+fn names_needed<'a>(
+    needed: bool,
+    meta: &'a [u8],
+    known: &mut KnownMeta,
+) -> Result<MetaRef<'a>, Rule>
     ensures { Gives names_of result (names_needed needed meta.now) }
 {
     if needed {
-        MetaRef::view(meta)
+        known.view(meta)
     } else {
         Ok(MetaRef::without_names())
     }
@@ -56,7 +60,8 @@ impl Reading {
         reading_of(alloc, mask.as_slice(), &column.node, 1, 0)
     }
 
-    /// The row of a row record, as `unshred` gives it. The column and the mask are those that `new` was given.
+    /// The row of a row record, as `unshred` gives it. The column and the mask are those that `new` was given. `known`
+    /// keeps the metadata of the row before.
     #[tactic(auto, unfolding(crate::specs::Rows::row_seen))]
     pub fn row(
         &self,
@@ -64,6 +69,7 @@ impl Reading {
         column: &Column,
         row: &RowRecord,
         mask: &Mask,
+        known: &mut KnownMeta,
     ) -> Result<Option<Tree>, Refusal>
         requires column { IsWellFormed (group_of column.now.node) }
         requires reading { IsReading (reads mask.now) (group_of column.now.node) 1 self.now }
@@ -74,7 +80,7 @@ impl Reading {
             RowRecord::Absent => Ok(None),
             RowRecord::Present { meta, rec } => {
                 let needed = is_needed(self, &column.node, rec);
-                let names = names_needed(needed, meta.as_slice())?;
+                let names = names_needed(needed, meta.as_slice(), known)?;
                 // An object of which only the typed part counts. `seen` tells the same of it, with more copies.
                 if let Some(alone) = fields_alone(self, &column.node, rec) {
                     let members = members_alone(alloc, self, &names, alone, 0)?;
@@ -108,5 +114,5 @@ pub fn unshred(
     ensures { Makes (option_map view) result (row_seen (reads mask.now) (group_of column.now.node) (row_rec_of row.now)) }
 {
     let reading = Reading::new(alloc, column, mask)?;
-    reading.row(alloc, column, row, mask)
+    reading.row(alloc, column, row, mask, &mut KnownMeta::new(alloc))
 }

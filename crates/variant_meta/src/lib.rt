@@ -10,6 +10,7 @@
 //! | `layout`, `held_names` | where the parts of metadata lie; its names |
 //! | `name_order` | `is_before`: the order of names |
 //! | `meta_ref` | `MetaRef`: metadata, read in place |
+//! | `known_meta` | `KnownMeta`: metadata that comes again |
 //! | `dictionary` | `Dictionary`: names in order, each once; their metadata, written |
 //! | `type_ids` | the types of values, which their readers and writers share |
 //! | `laws` | what is written reads back |
@@ -17,6 +18,7 @@
 
 mod dictionary;
 mod held_names;
+mod known_meta;
 mod laws;
 mod layout;
 mod meta_ref;
@@ -24,6 +26,7 @@ mod name_order;
 mod type_ids;
 
 pub use dictionary::Dictionary;
+pub use known_meta::KnownMeta;
 pub use laws::written_names_read_back;
 pub use meta_ref::MetaRef;
 pub use name_order::is_before;

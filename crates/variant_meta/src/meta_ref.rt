@@ -1,6 +1,6 @@
 //! Metadata, read in place.
 
-ghost use Rattle.std.specs.Prelude.{◌≡◌, ◌<◌, [], true, length, IfOk, SomeIff};
+ghost use Rattle.std.specs.Prelude.{◌≡◌, ◌<◌, [], true, is_ok, length, Ok, IfOk, SomeIff};
 ghost use Rattle.std.specs.List.{list_all};
 ghost use Rattle.std.specs.Str.{is_utf8};
 ghost use Rattle.vs_bytes.specs.Numbers.{IsPart};
@@ -75,6 +75,24 @@ impl<'a> MetaRef<'a> {
             return Err(Rule::MetaOrder);
         }
         Ok(MetaRef { held, sorted })
+    }
+
+    /// Views metadata that was judged, and doesn't judge it again.
+    #[tactic(auto, using(std::proofs::lemmas::Bool::Decides::nat_tests), unfolding(crate::specs::Metadata::names, crate::specs::MetaRefs::names_of))]
+    pub(crate) fn of_judged(bytes: &'a [u8]) -> MetaRef<'a>
+        requires { is_ok (names bytes.now) ≡ true }
+        ensures { names bytes.now ≡ Ok (names_of result) }
+    {
+        let Some(layout) = Layout::of(bytes) else {
+            unreachable!()
+        };
+        let Some(held) = HeldNames::of(layout) else {
+            unreachable!()
+        };
+        MetaRef {
+            held,
+            sorted: sorted_strings(bytes),
+        }
     }
 
     /// How many names there are.

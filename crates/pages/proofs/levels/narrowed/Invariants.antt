@@ -1,6 +1,9 @@
-use Rattle.std.proofs.Common.{◌≡◌, ◌++◌, drop}
+use Rattle.std.proofs.Common.{◌≡◌, length, take}
 use Rattle.pages.proofs.levels.narrowed.Given as goal
 
--- what was narrowed, and what is left
-abbrev pub invariant-loop-level : goal.invariant-loop-level
-invariant-loop-level l = l.narrow.items ++ drop l.level-index l.levels ≡ l.levels
+-- how many are stored
+abbrev pub invariant-loop-i : goal.invariant-loop-i
+invariant-loop-i l = record {
+  size : length l.narrow.items ≡ length l.levels;
+  done : take l.i l.narrow.items ≡ take l.i l.levels;
+}
